@@ -1,0 +1,4 @@
+pub mod Packing
+pub mod Groups
+pub mod Answers
+pub mod Hands
