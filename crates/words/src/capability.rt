@@ -3,6 +3,7 @@ use super::locality::Locality;
 use super::permission::Permission;
 
 mod methods;
+mod parts;
 
 // What its holder may reach: the addresses from `base` up to and without `end`. The cursor is the address that it points at. A base above the end is
 // allowed, and covers nothing.

@@ -50,10 +50,10 @@ impl Permission {
     pub fn writes(self) -> bool
         ensures { λ r. ⌜ r ≡ writes self ⌝ }
     {
-        matches!(
-            self,
-            Permission::RW | Permission::RWL | Permission::RWX | Permission::RWLX
-        )
+        match self {
+            Permission::RW | Permission::RWL | Permission::RWX | Permission::RWLX => true,
+            _ => false,
+        }
     }
 
     pub fn executes(self) -> bool

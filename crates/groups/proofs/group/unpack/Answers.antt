@@ -1,4 +1,6 @@
 use mathlib.Core.Path.{_≡_, refl, sym, ap, _∙_}
+use native.Mathlib.Omega.{arith}
+use lib.ListN.{length}
 use Rattle.words.specs.Meaning.{meaning}
 use Rattle.groups.specs.Packing.{unpacked, packed}
 use Rattle.groups.specs.Groups.{group, number-at, group-word}
@@ -9,7 +11,8 @@ use Rattle.groups.proofs.group.unpack.Needs as need
 
 pub returns-in-Some : need.returns-in-Some
 returns-in-Some c =
-    let there = full (c .args .bytes .now) (c .if-bytes-ne8 .left) ∙ ap unpacked (sym (c .number .ensures .value)) in
+    let eight : length (c .args .bytes .now) ≡ 8 = omega arith in
+    let there = full (c .args .bytes .now) eight ∙ ap unpacked (sym (c .number .ensures .value)) in
     record {
       value = sym (ap or-refused (there ∙ sym (c .in-Some .ensures tt .value)));
       exactly = ap group (c .in-Some .ensures tt .exactly) ∙ c .number .ensures .back;
@@ -17,7 +20,8 @@ returns-in-Some c =
 
 pub returns-in-None : need.returns-in-None
 returns-in-None c =
-    let there = full (c .args .bytes .now) (c .if-bytes-ne8 .left) ∙ ap unpacked (sym (c .number .ensures .value)) in
+    let eight : length (c .args .bytes .now) ≡ 8 = omega arith in
+    let there = full (c .args .bytes .now) eight ∙ ap unpacked (sym (c .number .ensures .value)) in
     let n = c .number .result in
     record {
       value = sym (ap or-refused (there ∙ sym (c .in-None .ensures tt .value)));
