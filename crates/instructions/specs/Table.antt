@@ -50,7 +50,7 @@ pub record Parts : Type 0 where
   pub a : Operand
   pub b : Operand
 
-abbrev parts : ℕ → ℕ → Operand → Operand → Parts
+abbrev pub parts : ℕ → ℕ → Operand → Operand → Parts
 parts opcode d a b = record { opcode = opcode; d = d; a = a; b = b }
 
 -- A field that is not used is zero: for an operand, the bits of the constant 0.

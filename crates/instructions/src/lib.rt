@@ -1,6 +1,9 @@
 // The instructions of the machine, and the integers that they pack into.
 mod fields;
 mod instruction;
+mod operand;
+mod packing;
 
 pub use instruction::Instruction;
 pub use instruction::Operand;
+pub use packing::pack;
