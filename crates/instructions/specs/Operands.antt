@@ -40,13 +40,9 @@ abbrev pub operand-bits : Operand → ℕ
 operand-bits (Register n) = 2 ^ 10 + n
 operand-bits (Constant z) = ten-bits z
 
--- Whether the flag is set, and the ten bits below it then.
+-- The flag is set.
 abbrev pub flagged : ℕ → Bool
 flagged n = leb (2 ^ 10) n
-
--- The number of a register in eleven bits, if they name one that exists.
-abbrev pub register-at : ℕ → Option ℕ
-register-at n = cond (flagged n) (cond (register-exists (n - 2 ^ 10)) (Some (n - 2 ^ 10)) None) None
 
 -- The operand in eleven bits, if they hold one: any constant is one, and a register is one that exists.
 abbrev pub operand-at : ℕ → Option Operand

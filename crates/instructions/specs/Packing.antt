@@ -1,7 +1,7 @@
 -- The integer that an instruction packs into, and the instruction that an integer unpacks to.
 use Prim.Native.Nat.{ℕ, _+_, _*_, _/_, _%_, _^_}
 use mathlib.Core.Path.{_≡_}
-use mathlib.Core.Bool.{Bool, _&&_, cond}
+use mathlib.Core.Bool.{Bool, true, false, _&&_, cond}
 use lib.Dec.{eqb}
 use lib.IntN.{ℤ, pos, negsuc}
 use Rattle.std.specs.declared.option.Option.{Option}
@@ -11,9 +11,10 @@ use Rattle.std.specs.declared.result.Result.the-variants.{Ok, Err}
 use Rattle.words.specs.declared.refusal.Refusal.{Refusal}
 use Rattle.words.specs.Refusals.{refusal-number}
 use Rattle.instructions.specs.declared.instruction.Operand.{Operand}
+use Rattle.instructions.specs.declared.instruction.Operand.the-variants.{Register, Constant}
 use Rattle.instructions.specs.declared.instruction.Instruction.{Instruction}
 use Rattle.instructions.specs.declared.fields.Fields.{Fields}
-use Rattle.instructions.specs.Operands.{register-exists, register-ok, constant-ok, operand-bits, operand-at, register-at}
+use Rattle.instructions.specs.Operands.{register-exists, register-ok, constant-ok, operand-bits, operand-at, flagged}
 use Rattle.instructions.specs.Table.{Form, no-instruction, alone, with-d, with-d-a, with-d-register, with-d-a-b, form-of, Parts, parts-of}
 
 -- An integer, or the number of a refusal.
@@ -47,19 +48,33 @@ packing-of i = packing-parts (parts-of i)
 abbrev pub fields-of : ℕ → Fields
 fields-of n = record { opcode = n / 2 ^ 26; d = n / 2 ^ 22 % 2 ^ 4; a = n / 2 ^ 11 % 2 ^ 11; b = n % 2 ^ 11 }
 
--- An instruction of one more part, where there is that part.
-abbrev with-part : {X : Type 0} → (X → Option Instruction) → Option X → Option Instruction
-with-part make (Some x) = make x
-with-part make None = None
+-- The fields that an opcode doesn't use are zero, and the flag of A is set where A has to be a register.
+abbrev pub well-formed : Form → Fields → Bool
+well-formed no-instruction f = false
+well-formed (alone i) f = eqb (f .d) 0 && (eqb (f .a) 0 && eqb (f .b) 0)
+well-formed (with-d make) f = eqb (f .a) 0 && eqb (f .b) 0
+well-formed (with-d-a make) f = eqb (f .b) 0
+well-formed (with-d-register make) f = flagged (f .a) && eqb (f .b) 0
+well-formed (with-d-a-b make) f = true
 
--- The instruction that the fields make, given those that the opcode uses. The others are zero.
+-- The instruction of a register D and two operands.
+abbrev pub made : Form → ℕ → Operand → Operand → Option Instruction
+made no-instruction d a b = None
+made (alone i) d a b = Some i
+made (with-d make) d a b = Some (make d)
+made (with-d-a make) d a b = Some (make d a)
+made (with-d-register make) d (Register n) b = Some (make d n)
+made (with-d-register make) d (Constant z) b = None
+made (with-d-a-b make) d a b = Some (make d a b)
+
+-- The same where both operands are there.
+abbrev pub made-with : Form → ℕ → Option Operand → Option Operand → Option Instruction
+made-with form d (Some a) (Some b) = made form d a b
+made-with form d (Some a) None = None
+made-with form d None b = None
+
 abbrev pub filled : Form → Fields → Option Instruction
-filled no-instruction f = None
-filled (alone i) f = cond (eqb (f .d) 0 && (eqb (f .a) 0 && eqb (f .b) 0)) (Some i) None
-filled (with-d make) f = cond (eqb (f .a) 0 && eqb (f .b) 0) (Some (make (f .d))) None
-filled (with-d-a make) f = cond (eqb (f .b) 0) (with-part (λ a. Some (make (f .d) a)) (operand-at (f .a))) None
-filled (with-d-register make) f = cond (eqb (f .b) 0) (with-part (λ a. Some (make (f .d) a)) (register-at (f .a))) None
-filled (with-d-a-b make) f = with-part (λ a. with-part (λ b. Some (make (f .d) a b)) (operand-at (f .b))) (operand-at (f .a))
+filled form f = cond (well-formed form f) (made-with form (f .d) (operand-at (f .a)) (operand-at (f .b))) None
 
 abbrev pub instruction-of : Fields → Option Instruction
 instruction-of f = filled (form-of (f .opcode)) f

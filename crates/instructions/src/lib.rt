@@ -3,6 +3,7 @@ mod fields;
 mod instruction;
 mod operand;
 mod packing;
+mod unpacking;
 
 pub use instruction::Instruction;
 pub use instruction::Operand;

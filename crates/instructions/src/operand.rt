@@ -47,7 +47,6 @@ impl Operand {
 
     // The operand that eleven bits hold, if they hold one.
     pub fn from_bits(bits: u32) -> Option<Operand>
-        requires { ⌜ bits < 2 ^ 11 ⌝ }
         ensures { λ r. ⌜ r ≡ operand-at bits ⌝ }
     {
         match bits {
