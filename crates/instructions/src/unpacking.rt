@@ -1,6 +1,6 @@
 ghost use mathlib.Core.Path.{_≡_};
 ghost use Rattle.instructions.specs.Table.{form-of};
-ghost use Rattle.instructions.specs.Packing.{well-formed, made, instruction-of, unpacked};
+ghost use Rattle.instructions.specs.Packing.{well-formed, made, instruction-of, unpacked, Unpacks};
 use super::fields::Fields;
 use super::instruction::Instruction;
 use super::instruction::Operand;
@@ -9,6 +9,7 @@ use super::operand::FLAG;
 // The instruction that an integer packs, if it packs one.
 pub fn unpack(number: i32) -> Option<Instruction>
     ensures value { λ r. ⌜ r ≡ unpacked number ⌝ }
+    ensures exactly { λ r. ⌜ Unpacks number r ⌝ }
 {
     if number < 0 {
         return None;
