@@ -1,33 +1,31 @@
--- The places of the fields: parts are packed into a number exactly when its fields hold them.
-use mathlib.Core.Path.{_≡_, refl, sym, ap, _∙_}
-use mathlib.Core.Bool.{Bool, true, false, _&&_, cond}
-use Prim.Native.Nat.{ℕ, _+_, _-_, _*_, _/_, _%_, _^_, _<_, _≤_}
+-- The places of the fields: parts pack into a number exactly when its fields hold them.
+use mathlib.Core.Path.{_≡_, refl, ap, _∙_}
+use mathlib.Core.Bool.{true}
+use Prim.Native.Nat.{ℕ, _/_, _%_, _^_, _<_, _≤_}
 use native.Mathlib.Omega.{arith}
-use lib.Dec.{leb, ltb, eqb}
+use lib.Dec.{leb}
 use lib.IntN.{ℤ, pos, negsuc}
-use Rattle.std.specs.declared.option.Option.{Option}
-use Rattle.std.specs.declared.option.Option.the-variants.{Some, None}
+use Rattle.std.specs.declared.option.Option.the-variants.{Some}
 use Rattle.std.proofs.shelf.Ways.{tells}
 use Rattle.instructions.specs.declared.instruction.Operand.{Operand}
 use Rattle.instructions.specs.declared.instruction.Operand.the-variants.{Register, Constant}
-use Rattle.instructions.specs.declared.fields.Fields.{Fields}
-use Rattle.instructions.specs.Operands.{register-ok, constant-ok, operand-bits, operand-at}
+use Rattle.instructions.specs.Operands.{register-fits, constant-fits, operand-bits, operand-at}
 use Rattle.instructions.specs.Table.{Parts}
 use Rattle.instructions.specs.Packing.{packed, packing-parts, joined, fields-of}
 use Rattle.instructions.proofs.Reading.{Holds}
 
--- An operand that can be packed: it names a register that exists, or is a constant that fits.
-record Sound (x : Operand) : Type 0 where
-  register : register-ok x ≡ true
-  constant : constant-ok x ≡ true
+-- An operand that can be packed.
+record Fits (x : Operand) : Type 0 where
+  register : register-fits x ≡ true
+  constant : constant-fits x ≡ true
 
--- The eleven bits of an operand hold it, and no others do.
-bits-back : (x : Operand) → Sound x → (operand-at (operand-bits x) ≡ Some x) × (operand-bits x < 2 ^ 11)
+-- The eleven bits of an operand that fits hold it, and eleven bits that hold one are its bits.
+bits-back : (x : Operand) → Fits x → (operand-at (operand-bits x) ≡ Some x) × (operand-bits x < 2 ^ 11)
 bits-back (Register r) s = (grind (arith, tells, s .register), grind (arith, tells, s .register))
 bits-back (Constant (pos n)) s = (grind (arith, tells, s .constant), grind (arith, tells, s .constant))
 bits-back (Constant (negsuc n)) s = (grind (arith, tells, s .constant), omega arith)
 
-bits-there : (n : ℕ) (x : Operand) → n < 2 ^ 11 → operand-at n ≡ Some x → Sound x × (operand-bits x ≡ n)
+bits-there : (n : ℕ) (x : Operand) → n < 2 ^ 11 → operand-at n ≡ Some x → Fits x × (operand-bits x ≡ n)
 bits-there n (Register r) l h = (record { register = grind (arith, tells); constant = refl }, grind (arith, tells))
 bits-there n (Constant (pos m)) l h = (record { register = refl; constant = grind (arith, tells) }, grind (arith, tells))
 bits-there n (Constant (negsuc m)) l h = (record { register = refl; constant = grind (arith, tells) }, grind (arith, tells))
@@ -35,12 +33,18 @@ bits-there n (Constant (negsuc m)) l h = (record { register = refl; constant = g
 -- Parts that packing accepts.
 record Accepted (p : Parts) : Type 0 where
   d : p .d ≤ 15
-  a : Sound (p .a)
-  b : Sound (p .b)
+  a : Fits (p .a)
+  b : Fits (p .b)
 
 accepted : (p : Parts) (z : ℤ) → packing-parts p ≡ packed z → Accepted p × (z ≡ pos (joined p))
-accepted p z h =
-    (record { d = grind (arith, tells); a = record { register = grind arith; constant = grind arith }; b = record { register = grind arith; constant = grind arith } }, grind arith)
+accepted p z h = (
+  record {
+    d = grind (arith, tells);
+    a = record { register = grind arith; constant = grind arith };
+    b = record { register = grind arith; constant = grind arith };
+  },
+  grind arith,
+)
 
 accepts : (p : Parts) → Accepted p → packing-parts p ≡ packed (pos (joined p))
 accepts p s =

@@ -1,6 +1,6 @@
 -- Operands, and the eleven bits that hold one: a flag, set for a register, above ten bits for its number or for a signed constant.
 use Prim.Native.Nat.{ℕ, _+_, _-_, _^_}
-use mathlib.Core.Bool.{Bool, true, false, cond}
+use mathlib.Core.Bool.{Bool, true, cond}
 use lib.Dec.{leb, ltb}
 use lib.IntN.{ℤ, pos, negsuc}
 use Rattle.std.specs.declared.option.Option.{Option}
@@ -12,22 +12,22 @@ use Rattle.instructions.specs.declared.instruction.Operand.the-variants.{Regis
 abbrev pub register-exists : ℕ → Bool
 register-exists n = leb n 15
 
--- Constants are −512 to 511.
-abbrev pub constant-fits : ℤ → Bool
-constant-fits (pos n) = leb n 511
-constant-fits (negsuc n) = leb n 511
+-- Constants are −512 to 511 (`negsuc n` is −1 − n).
+abbrev pub in-range : ℤ → Bool
+in-range (pos n) = leb n 511
+in-range (negsuc n) = leb n 511
 
--- The operand names no register, or one that exists.
-abbrev pub register-ok : Operand → Bool
-register-ok (Register n) = register-exists n
-register-ok (Constant z) = true
+-- The operand names a register that exists, or none.
+abbrev pub register-fits : Operand → Bool
+register-fits (Register n) = register-exists n
+register-fits (Constant z) = true
 
--- The operand is no constant, or one that fits.
-abbrev pub constant-ok : Operand → Bool
-constant-ok (Register n) = true
-constant-ok (Constant z) = constant-fits z
+-- The operand is a constant in range, or none.
+abbrev pub constant-fits : Operand → Bool
+constant-fits (Register n) = true
+constant-fits (Constant z) = in-range z
 
--- Ten bits as the two's complement of a constant, both ways.
+-- The two's complement of a constant in ten bits, and the constant that ten bits are the two's complement of.
 abbrev pub ten-bits : ℤ → ℕ
 ten-bits (pos n) = n
 ten-bits (negsuc n) = 2 ^ 10 - 1 - n
@@ -35,15 +35,18 @@ ten-bits (negsuc n) = 2 ^ 10 - 1 - n
 abbrev pub signed : ℕ → ℤ
 signed n = cond (ltb n (2 ^ 9)) (pos n) (negsuc (2 ^ 10 - 1 - n))
 
--- The eleven bits of an operand, whose register exists and whose constant fits.
+-- The eleven bits of an operand that fits: those of a register have the flag set.
 abbrev pub operand-bits : Operand → ℕ
 operand-bits (Register n) = 2 ^ 10 + n
 operand-bits (Constant z) = ten-bits z
 
--- The flag is set.
+-- The flag of eleven bits is set.
 abbrev pub flagged : ℕ → Bool
 flagged n = leb (2 ^ 10) n
 
--- The operand in eleven bits, if they hold one: any constant is one, and a register is one that exists.
+-- The operand that eleven bits hold. They hold none where they name a register that doesn't exist.
 abbrev pub operand-at : ℕ → Option Operand
-operand-at n = cond (flagged n) (cond (register-exists (n - 2 ^ 10)) (Some (Register (n - 2 ^ 10))) None) (Some (Constant (signed n)))
+operand-at n =
+    cond (flagged n)
+    (cond (register-exists (n - 2 ^ 10)) (Some (Register (n - 2 ^ 10))) None)
+    (Some (Constant (signed n)))

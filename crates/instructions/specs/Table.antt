@@ -1,4 +1,4 @@
--- The table of instructions: the opcode of each, and the fields that it uses.
+-- The table of instructions: the opcode of each, and which of the fields D, A and B it uses.
 use Prim.Native.Nat.{ℕ}
 use mathlib.Core.Bool.{cond}
 use lib.Dec.{eqb}
@@ -8,7 +8,7 @@ use Rattle.instructions.specs.declared.instruction.Operand.the-variants.{Regis
 use Rattle.instructions.specs.declared.instruction.Instruction.{Instruction}
 use Rattle.instructions.specs.declared.instruction.Instruction.the-variants.{Fail, Halt, Jmp, Jnz, Move, Load, Store, Plus, Minus, Lt, Lea, Restrict, Subseg, IsPtr, GetP, GetL, GetB, GetE, GetA, Quot}
 
--- The fields that an opcode uses, with the instruction that they make.
+-- The fields that an instruction uses, with the instruction that they make. In `with-d-register` A is a register, and no constant.
 pub data Form : Type 0 where
   no-instruction : Form
   alone : Instruction → Form
@@ -17,9 +17,11 @@ pub data Form : Type 0 where
   with-d-register : (ℕ → ℕ → Instruction) → Form
   with-d-a-b : (ℕ → Operand → Operand → Instruction) → Form
 
+-- One row: `form` at this opcode, and else what the rows below it say.
 abbrev row : ℕ → ℕ → Form → Form → Form
 row opcode n form others = cond (eqb n opcode) form others
 
+-- The form of an opcode.
 abbrev pub form-of : ℕ → Form
 form-of n =
     row 1 n (alone Fail)
@@ -43,7 +45,7 @@ form-of n =
     (row 19 n (with-d-register GetA)
     (row 20 n (with-d-a-b Quot) no-instruction)))))))))))))))))))
 
--- The same from the instruction's side: its opcode, and what it puts into D, A and B.
+-- The parts of an instruction: its opcode, and what stands in D, A and B.
 pub record Parts : Type 0 where
   pub opcode : ℕ
   pub d : ℕ
@@ -53,10 +55,11 @@ pub record Parts : Type 0 where
 abbrev pub parts : ℕ → ℕ → Operand → Operand → Parts
 parts opcode d a b = record { opcode = opcode; d = d; a = a; b = b }
 
--- A field that is not used is zero: for an operand, the bits of the constant 0.
+-- What stands in an operand that is not used: the constant 0, whose bits are zero.
 abbrev pub unused : Operand
 unused = Constant (pos 0)
 
+-- The same table, read from the instruction's side. That the two sides agree is what `Unpacks` says in the contract of `unpack`.
 abbrev pub parts-of : Instruction → Parts
 parts-of Fail = parts 1 0 unused unused
 parts-of Halt = parts 2 0 unused unused

@@ -8,3 +8,4 @@ mod unpacking;
 pub use instruction::Instruction;
 pub use instruction::Operand;
 pub use packing::pack;
+pub use unpacking::unpack;

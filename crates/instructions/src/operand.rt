@@ -1,19 +1,19 @@
 ghost use mathlib.Core.Path.{_≡_};
 ghost use mathlib.Core.Bool.{true};
 ghost use Prim.Native.Nat.{_<_, _^_};
-ghost use Rattle.instructions.specs.Operands.{register-ok, constant-ok, operand-bits, operand-at};
+ghost use Rattle.instructions.specs.Operands.{register-fits, constant-fits, operand-bits, operand-at};
 use super::instruction::Operand;
 
 // The flag of an operand's eleven bits, set for a register.
-pub const FLAG: u32 = 0x400;
+pub(crate) const FLAG: u32 = 0x400;
 
 // The largest number of a register.
-pub const LAST_REGISTER: u32 = 15;
+pub(crate) const LAST_REGISTER: u32 = 15;
 
 impl Operand {
-    // Whether it names no register, or one that exists.
-    pub fn register_exists(self) -> bool
-        ensures { λ r. ⌜ r ≡ register-ok self ⌝ }
+    // Whether it names a register that exists, or none.
+    pub(crate) fn register_fits(self) -> bool
+        ensures { λ r. ⌜ r ≡ register-fits self ⌝ }
     {
         match self {
             Operand::Register(number) => number <= LAST_REGISTER,
@@ -21,9 +21,9 @@ impl Operand {
         }
     }
 
-    // Whether it is no constant, or one that ten bits have room for.
-    pub fn constant_fits(self) -> bool
-        ensures { λ r. ⌜ r ≡ constant-ok self ⌝ }
+    // Whether it is a constant that ten bits have room for, or none.
+    pub(crate) fn constant_fits(self) -> bool
+        ensures { λ r. ⌜ r ≡ constant-fits self ⌝ }
     {
         match self {
             Operand::Register(_) => true,
@@ -31,10 +31,10 @@ impl Operand {
         }
     }
 
-    // Its eleven bits.
-    pub fn to_bits(self) -> u32
-        requires register { ⌜ register-ok self ≡ true ⌝ }
-        requires constant { ⌜ constant-ok self ≡ true ⌝ }
+    // The eleven bits of one that fits.
+    pub(crate) fn to_bits(self) -> u32
+        requires register { ⌜ register-fits self ≡ true ⌝ }
+        requires constant { ⌜ constant-fits self ≡ true ⌝ }
         ensures value { λ r. ⌜ r ≡ operand-bits self ⌝ }
         ensures small { λ r. ⌜ r < 2 ^ 11 ⌝ }
     {
@@ -46,7 +46,7 @@ impl Operand {
     }
 
     // The operand that eleven bits hold, if they hold one.
-    pub fn from_bits(bits: u32) -> Option<Operand>
+    pub(crate) fn from_bits(bits: u32) -> Option<Operand>
         ensures { λ r. ⌜ r ≡ operand-at bits ⌝ }
     {
         match bits {

@@ -38,12 +38,12 @@ pub fn pack(instruction: Instruction) -> Result<i32, Refusal>
     }
 }
 
-// The integer of four fields.
+// The integer of an opcode, register D and two operands.
 fn join(opcode: u32, d: u32, a: Operand, b: Operand) -> Result<i32, Refusal>
     requires { ⌜ opcode < 32 ⌝ }
     ensures { λ r. ⌜ packing r ≡ packing-parts (parts opcode d a b) ⌝ }
 {
-    if d > LAST_REGISTER || !a.register_exists() || !b.register_exists() {
+    if d > LAST_REGISTER || !a.register_fits() || !b.register_fits() {
         return Err(Refusal::NoRegister);
     }
     if !a.constant_fits() || !b.constant_fits() {

@@ -1,12 +1,13 @@
 ghost use mathlib.Core.Path.{_≡_};
 ghost use Rattle.instructions.specs.Table.{form-of};
-ghost use Rattle.instructions.specs.Packing.{well-formed, made, instruction-of, unpacked, Unpacks};
+ghost use Rattle.instructions.specs.Forms.{well-formed, made, instruction-of};
+ghost use Rattle.instructions.specs.Packing.{unpacked, Unpacks};
 use super::fields::Fields;
 use super::instruction::Instruction;
 use super::instruction::Operand;
 use super::operand::FLAG;
 
-// The instruction that an integer packs, if it packs one.
+// The instruction that packs into an integer, if one does.
 pub fn unpack(number: i32) -> Option<Instruction>
     ensures value { λ r. ⌜ r ≡ unpacked number ⌝ }
     ensures exactly { λ r. ⌜ Unpacks number r ⌝ }
@@ -17,6 +18,7 @@ pub fn unpack(number: i32) -> Option<Instruction>
     decode(Fields::split(number.cast_unsigned()))
 }
 
+// The instruction that the fields make, if they make one.
 fn decode(f: Fields) -> Option<Instruction>
     ensures { λ r. ⌜ r ≡ instruction-of f ⌝ }
 {
@@ -50,23 +52,23 @@ fn make(opcode: u32, d: u32, a: Operand, b: Operand) -> Option<Instruction>
         (1, _) => Some(Instruction::Fail),
         (2, _) => Some(Instruction::Halt),
         (3, _) => Some(Instruction::Jmp { d }),
-        (4, a) => Some(Instruction::Jnz { d, a }),
-        (5, a) => Some(Instruction::Move { d, a }),
+        (4, _) => Some(Instruction::Jnz { d, a }),
+        (5, _) => Some(Instruction::Move { d, a }),
         (6, Operand::Register(a)) => Some(Instruction::Load { d, a }),
-        (7, a) => Some(Instruction::Store { d, a }),
-        (8, a) => Some(Instruction::Plus { d, a, b }),
-        (9, a) => Some(Instruction::Minus { d, a, b }),
-        (10, a) => Some(Instruction::Lt { d, a, b }),
-        (11, a) => Some(Instruction::Lea { d, a }),
-        (12, a) => Some(Instruction::Restrict { d, a }),
-        (13, a) => Some(Instruction::Subseg { d, a, b }),
-        (14, a) => Some(Instruction::IsPtr { d, a }),
+        (7, _) => Some(Instruction::Store { d, a }),
+        (8, _) => Some(Instruction::Plus { d, a, b }),
+        (9, _) => Some(Instruction::Minus { d, a, b }),
+        (10, _) => Some(Instruction::Lt { d, a, b }),
+        (11, _) => Some(Instruction::Lea { d, a }),
+        (12, _) => Some(Instruction::Restrict { d, a }),
+        (13, _) => Some(Instruction::Subseg { d, a, b }),
+        (14, _) => Some(Instruction::IsPtr { d, a }),
         (15, Operand::Register(a)) => Some(Instruction::GetP { d, a }),
         (16, Operand::Register(a)) => Some(Instruction::GetL { d, a }),
         (17, Operand::Register(a)) => Some(Instruction::GetB { d, a }),
         (18, Operand::Register(a)) => Some(Instruction::GetE { d, a }),
         (19, Operand::Register(a)) => Some(Instruction::GetA { d, a }),
-        (20, a) => Some(Instruction::Quot { d, a, b }),
+        (20, _) => Some(Instruction::Quot { d, a, b }),
         _ => None,
     }
 }
