@@ -8,6 +8,9 @@ ghost use Rattle.memory.specs.Row.{load-answer, loaded, store-answer, stored-a
 use words::Refusal;
 use words::Word;
 
+// The most cells that any memory has.
+pub const CELLS: usize = 65536;
+
 // A row of words from address 0, of a length that never changes.
 pub trait Memory {
     // the most cells that a memory of this kind can have
