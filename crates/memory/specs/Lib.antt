@@ -1,0 +1,4 @@
+pub mod Row
+pub mod Tables
+pub mod Packs
+pub mod Joins
