@@ -1,5 +1,4 @@
 -- The bench: its calls, what each answers, and what it leaves.
-use mathlib.Core.Path.{_≡_}
 use mathlib.Core.List.{List, [], _∷_}
 use Prim.Native.Nat.{ℕ, _≤_, _<_}
 use lib.ListN.{length, set, replicate}

@@ -1,7 +1,7 @@
 -- The third finding: what a visit leaves behind.
 use mathlib.Core.Path.{_≡_}
 use mathlib.Core.Logic.{_≢_}
-use mathlib.Core.List.{List, [], _∷_}
+use mathlib.Core.List.{List, _∷_}
 use Prim.Native.Nat.{ℕ}
 use lib.Dec.{T}
 use Rattle.words.specs.declared.locality.Locality.the-variants.{Global, Local}

@@ -3,12 +3,11 @@ use mathlib.Core.Bool.{cond, _&&_}
 use mathlib.Core.List.{List}
 use Prim.Native.Nat.{ℕ, suc}
 use lib.Dec.{ltb}
-use lib.IntN.{ℤ}
 use lib.ListN.{length, set}
 use Rattle.std.specs.declared.option.Option.{Option}
 use Rattle.std.specs.declared.option.Option.the-variants.{Some, None}
 use Rattle.words.specs.Permissions.{executes}
-use Rattle.words.specs.Word.{Cap, Word, integer, capability, at, covers, with-cursor}
+use Rattle.words.specs.Word.{Word, integer, capability, at, covers, with-cursor}
 use Rattle.instructions.specs.declared.instruction.Instruction.{Instruction}
 use Rattle.instructions.specs.Packing.{unpacked}
 use Rattle.model.specs.declared.fault.Fault.the-variants.{NotExecutable, NoInstruction, CannotAdvance}
