@@ -1,0 +1,15 @@
+pub mod Rows
+pub mod Narrowed
+pub mod Allowed
+pub mod Steps
+pub mod Visit
+pub mod Story
+pub mod Written
+pub mod Lent
+pub mod Lockstep
+pub mod Charts
+pub mod Unseen
+pub mod Stand
+pub mod Running
+pub mod Surveying
+pub mod Checks

@@ -1,0 +1,13 @@
+pub mod Faults
+pub mod Machine
+pub mod Numbers
+pub mod Checks
+pub mod Effects
+pub mod Step
+pub mod Run
+pub mod Survey
+pub mod Bench
+pub mod Writing
+pub mod Seeing
+pub mod Lending
+pub mod Findings
