@@ -1,0 +1,51 @@
+-- From what a memory answers to what the rules say of a call.
+use mathlib.Core.Path.{_≡_, refl, sym, ap, subst, _∙_}
+use mathlib.Core.Logic.{_⊎_, ⊎-elim}
+use mathlib.Core.List.{List}
+use Prim.Native.Nat.{ℕ, _≤_, _<_}
+use native.Mathlib.Omega.{arith}
+use lib.ListN.{length, set}
+use Rattle.std.proofs.shelf.Lists.{set-past}
+use Rattle.std.proofs.shelf.Tests.{cases-lt}
+use Rattle.std.proofs.shelf.Ways.{tells}
+use Rattle.std.specs.declared.result.Result.{Result}
+use Rattle.std.specs.declared.result.Result.the-variants.{Ok, Err}
+use Rattle.words.specs.declared.refusal.Refusal.{Refusal}
+use Rattle.words.specs.declared.word.Word.{Word as Held}
+use Rattle.words.specs.Word.{Word, at}
+use Rattle.words.specs.Refusals.{refusal-number}
+use Rattle.words.specs.Meaning.{meaning}
+use Rattle.memory.specs.Row as row
+use Rattle.memory.specs.Row.{load-answer, loaded, store-answer, stored-answer}
+use Rattle.model.specs.Bench.{Answer, refused, word, idle, Does, placing, reading, places, places-no-cell, reads-cell, reads-no-cell}
+use Rattle.bench.specs.Answers.{done-answer, word-answer}
+
+-- Where an address lies, by what a store or a load answered.
+stored : (cells : List Word) (a : ℕ) → row.given tt ≡ stored-answer cells a → a < length cells
+stored cells a e = ⊎-elim (λ (h : a < length cells). h) (λ (h : length cells ≤ a). let z : _≡_ {A = ℕ} 0 1 = grind (arith, tells) in absurd (omega arith)) (cases-lt a (length cells))
+
+not-stored : (cells : List Word) (a n : ℕ) → row.refused n ≡ stored-answer cells a → (length cells ≤ a) × (n ≡ 1)
+not-stored cells a n e = grind (arith, tells)
+
+read-at : (cells : List Word) (a : ℕ) (w : Word) → row.given w ≡ loaded cells a → (a < length cells) × (w ≡ at cells a)
+read-at cells a w e = grind (arith, tells)
+
+not-read : (cells : List Word) (a n : ℕ) → row.refused n ≡ loaded cells a → (length cells ≤ a) × (n ≡ 1)
+not-read cells a n e = grind (arith, tells)
+
+pub place-does : (cells cells′ : List Word) (a : ℕ) (w : Word) (r : Result (Unit {0}) Refusal) → store-answer r ≡ stored-answer cells a → cells′ ≡ set cells a w →
+    Does (idle cells) (placing a w) (done-answer r) (idle cells′)
+place-does cells cells′ a w (Ok u) e after = subst (λ (c : List Word). Does (idle cells) (placing a w) (done-answer (Ok u)) (idle c)) (sym after) (places (stored cells a e))
+place-does cells cells′ a w (Err x) e after =
+    let no = not-stored cells a (refusal-number x) e in
+    let same : cells′ ≡ cells = after ∙ set-past cells a w (no .0) in
+    subst (λ (c : List Word). Does (idle cells) (placing a w) (refused (refusal-number x)) (idle c)) (sym same)
+    (subst (λ (n : ℕ). Does (idle cells) (placing a w) (refused n) (idle cells)) (sym (no .1)) (places-no-cell (no .0)))
+
+pub read-does : (cells : List Word) (a : ℕ) (r : Result Held Refusal) → load-answer r ≡ loaded cells a → Does (idle cells) (reading a) (word-answer r) (idle cells)
+read-does cells a (Ok w) e =
+    let at-a = read-at cells a (meaning w) e in
+    subst (λ (v : Word). Does (idle cells) (reading a) (word v) (idle cells)) (sym (at-a .1)) (reads-cell (at-a .0))
+read-does cells a (Err x) e =
+    let no = not-read cells a (refusal-number x) e in
+    subst (λ (n : ℕ). Does (idle cells) (reading a) (refused n) (idle cells)) (sym (no .1)) (reads-no-cell (no .0))
