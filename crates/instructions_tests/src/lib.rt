@@ -187,30 +187,36 @@ mod tests {
         // jmp with the register 0 for A, move with B
         0x0c20_0000,
         0x1440_0001,
-        // load and getb with a constant, and the others with a register 16 for A or B
+        // load and getb with a constant
         0x1800_0800,
         0x4400_0000,
+        // a register 16: in load, and in plus for A and for B
         0x18e0_8000,
         0x2020_8000,
         0x2000_0410,
     ];
 
-    // The number that unpacking and packing again gives, if any.
-    fn again(number: i32) -> Option<i32> {
-        match pack(unpack(number)?) {
-            Ok(packed) => Some(packed),
-            Err(_) => None,
+    // What packing gives: the integer, or else the number of the refusal.
+    fn packed(instruction: Instruction) -> (Option<i32>, u32) {
+        match pack(instruction) {
+            Ok(number) => (Some(number), 0),
+            Err(refusal) => (None, refusal.number()),
         }
+    }
+
+    // The instruction of an integer, packed again.
+    fn again(number: i32) -> Option<i32> {
+        packed(unpack(number)?).0
     }
 
     #[test]
     fn packs() -> Result<(), Fail> {
         for (instruction, number) in PACKED {
-            check(matches!(pack(instruction), Ok(packed) if packed == number))?;
+            check_eq(packed(instruction), (Some(number), 0))?;
             check_eq(again(number), Some(number))?;
         }
         for (instruction, refusal) in REFUSED {
-            check(matches!(pack(instruction), Err(why) if why.number() == refusal))?;
+            check_eq(packed(instruction), (None, refusal))?;
         }
         for number in NONE {
             check(unpack(number).is_none())?;
