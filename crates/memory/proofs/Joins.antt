@@ -1,18 +1,18 @@
 -- What a joined row is like, in its first part and in its second.
 use mathlib.Core.Path.{_≡_, refl, sym, ap, _∙_}
 use mathlib.Core.Bool.{_&&_, cond}
-use mathlib.Core.List.{List, _∷_, _++_, map}
-use Prim.Native.Nat.{ℕ, min, _+_, _-_, _≤_, _<_}
+use mathlib.Core.List.{List, [], _∷_, _++_, map}
+use Prim.Native.Nat.{ℕ, zero, suc, min, _+_, _-_, _≤_, _<_}
 use native.Mathlib.Omega.{arith}
 use lib.Dec.{leb, ltb}
 use lib.ListN.{length, set, take, drop, length-set, length-take, length-append}
 use lib.Seq.{take-set-lt}
-use Rattle.std.proofs.shelf.Lists.{getD-take, getD-append-left, getD-append-right, set-append-left, set-append-right, drop-set-lt}
+use Rattle.std.proofs.shelf.Lists.{getD-take, getD-append-left, getD-append-right, set-append-left, set-append-right, drop-set-lt, take-take, take-at, drop-at, append-assoc}
 use Rattle.std.proofs.shelf.Ways.{tells}
 use Rattle.words.specs.Word.{Word, at, zero-word}
 use Rattle.groups.specs.Packing.{packed}
 use Rattle.memory.specs.Row.{loaded, stored-answer}
-use Rattle.memory.specs.Joins.{joined-row, joined-beyond, second-after}
+use Rattle.memory.specs.Joins.{joined-row, joined-beyond, second-after, Told-apart}
 
 pub joined-length : (xs ys : List Word) → length (joined-row xs ys) ≡ min 65536 (length xs + length ys)
 unfolding joined-row
@@ -80,3 +80,36 @@ module _ (xs ys : List Word) (a : ℕ) (cut : a < 65536) where
 
 pub second-cut : (xs ys : List Word) (a : ℕ) (w : Word) → 65536 ≤ a → ys ≡ second-after xs ys a w
 second-cut xs ys a w h = grind (arith, tells)
+
+pub told-apart : (xs ys : List Word) (us vs : List ℕ) → length xs ≤ 65536 → Told-apart xs ys us vs
+unfolding joined-row joined-beyond
+told-apart xs ys us vs few xs′ ys′ us′ vs′ e =
+    let n : length xs′ ≡ length xs = cc in
+    let m : length us′ ≡ length us = cc in
+    let k : length vs′ ≡ length vs = cc in
+    let cut = map packed (drop 65536 (xs ++ ys)) in
+    let cut′ = map packed (drop 65536 (xs′ ++ ys′)) in
+    let all : us′ ++ (vs′ ++ cut′) ≡ us ++ (vs ++ cut) = cc in
+    let rest : vs′ ++ cut′ ≡ vs ++ cut
+    = sym (drop-at us′ (vs′ ++ cut′) (length us) m) ∙ ap (drop (length us)) all ∙ drop-at us (vs ++ cut) (length us) refl in (
+      sym (take-take (length xs′) 65536 (xs ++ ys) (omega arith) ∙ take-at xs ys (length xs′) (sym n)),
+      sym (take-at us (vs ++ cut) (length us) refl) ∙ ap (take (length us)) (sym all) ∙ take-at us′ (vs′ ++ cut′) (length us) m,
+      sym (take-at vs cut (length vs) refl) ∙ ap (take (length vs)) (sym rest) ∙ take-at vs′ cut′ (length vs) k,
+    )
+
+-- A list that is cut before another goes behind it or in front of it, and cut again, is cut once.
+cut-front : (n : ℕ) (xs ys : List Word) → take n (take n xs ++ ys) ≡ take n (xs ++ ys)
+cut-front zero xs ys = refl
+cut-front (suc n) [] ys = refl
+cut-front (suc n) (x ∷ xs) ys = ap (λ l. x ∷ l) (cut-front n xs ys)
+
+cut-behind : (n m : ℕ) (xs ys : List Word) → n ≤ m → take n (xs ++ take m ys) ≡ take n (xs ++ ys)
+cut-behind zero m xs ys h = refl
+cut-behind (suc n) m [] ys h = take-take (suc n) m ys h
+cut-behind (suc n) m (x ∷ xs) ys h = ap (λ l. x ∷ l) (cut-behind n m xs ys (omega arith))
+
+-- Joining is associative.
+pub joined-associative : (xs ys zs : List Word) → joined-row xs (joined-row ys zs) ≡ joined-row (joined-row xs ys) zs
+unfolding joined-row
+joined-associative xs ys zs =
+    cut-behind 65536 65536 xs (ys ++ zs) (omega arith) ∙ ap (take 65536) (sym (append-assoc xs ys zs)) ∙ sym (cut-front 65536 (xs ++ ys) zs)
