@@ -18,6 +18,14 @@ unfoldable pub joined-beyond : List Word → List Word → List ℕ → List ℕ
 joined-beyond first second past-first past-second =
     length first ∷ length past-first ∷ length past-second ∷ (past-first ++ (past-second ++ map packed (drop 65536 (first ++ second))))
 
+-- What lies beyond a pile tells its parts apart: with the same beyond, the first part has the same length, and the same lies beyond each part. So whoever
+-- takes a pile apart knows which cells of the whole are the first part's.
+abbrev pub Told-apart : List Word → List Word → List ℕ → List ℕ → Type 0
+Told-apart first second past-first past-second =
+    (first′ second′ : List Word) (past-first′ past-second′ : List ℕ) →
+    joined-beyond first′ second′ past-first′ past-second′ ≡ joined-beyond first second past-first past-second →
+    (first ≡ take (length first′) (joined-row first second)) × (past-first ≡ past-first′) × (past-second ≡ past-second′)
+
 -- How a store leaves the second row: an address from the first row's length on, and below the cut, is one of its own; any other leaves it as it was.
 abbrev pub second-after : List Word → List Word → ℕ → Word → List Word
 second-after first second a w = cond (leb (length first) a && ltb a 65536) (set second (a - length first) w) second

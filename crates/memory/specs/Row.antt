@@ -1,8 +1,8 @@
 -- What the calls on a memory answer, by its row: the words from address 0.
-use mathlib.Core.Bool.{cond}
+use mathlib.Core.Bool.{_&&_, cond}
 use mathlib.Core.List.{List}
 use Prim.Native.Nat.{ℕ}
-use lib.Dec.{ltb}
+use lib.Dec.{ltb, eqb}
 use lib.ListN.{length}
 use Rattle.std.specs.declared.result.Result.{Result}
 use Rattle.std.specs.declared.result.Result.the-variants.{Ok, Err}
@@ -34,3 +34,7 @@ store-answer (Err e) = refused (refusal-number e)
 -- A store is done; at or beyond the row's length it is refused (1).
 abbrev pub stored-answer : List Word → ℕ → Answer (Unit {0})
 stored-answer row a = cond (ltb a (length row)) (given tt) (refused 1)
+
+-- A load after a store: the new word at the address where it was stored, and elsewhere what was there before.
+abbrev pub loaded-after : List Word → ℕ → Word → ℕ → Answer Word
+loaded-after row a w b = cond (eqb b a && ltb a (length row)) (given w) (loaded row b)

@@ -5,7 +5,7 @@ ghost use lib.Dec.{lit≤};
 ghost use lib.ListN.{length, set};
 ghost use Rattle.words.specs.Meaning.{meaning};
 ghost use Rattle.memory.specs.Row.{store-answer, stored-answer};
-ghost use Rattle.memory.specs.Joins.{joined-row, joined-bounded, joined-beyond, second-after};
+ghost use Rattle.memory.specs.Joins.{joined-row, joined-bounded, joined-beyond, second-after, Told-apart};
 use super::memory::CELLS;
 use super::memory::Memory;
 use words::Refusal;
@@ -30,6 +30,7 @@ impl<F: Memory, S: Memory> JoinedMemory<F, S> {
     pub fn into_parts(self) -> (F, S)
         ensures first { λ r. ⌜ r .0 ≡ self .first ⌝ }
         ensures second { λ r. ⌜ r .1 ≡ self .second ⌝ }
+        ensures apart { λ r. ⌜ Told-apart (F·Memory .row (r .0)) (S·Memory .row (r .1)) (F·Memory .beyond (r .0)) (S·Memory .beyond (r .1)) ⌝ }
     {
         let JoinedMemory { first, second } = self;
         (first, second)

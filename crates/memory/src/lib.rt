@@ -1,11 +1,15 @@
 // Memories: what one is, said once as a trait, and three kinds of it.
 mod joined;
+mod laws;
 mod memory;
 mod packed;
 mod table;
 
 pub use joined::JoinedIsMemory;
 pub use joined::JoinedMemory;
+pub use laws::regroup;
+pub use laws::store_then_load;
+pub use laws::store_twice;
 pub use memory::CELLS;
 pub use memory::Memory;
 pub use packed::PackedIsMemory;

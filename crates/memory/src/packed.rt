@@ -26,7 +26,7 @@ impl<'a> PackedMemory<'a> {
     pub fn new(bytes: &'a mut [u8]) -> PackedMemory<'a>
         ensures { λ r. ⌜ r .bytes ≡ bytes .entry ⌝ }
     {
-        PackedMemory { bytes }
+        Self { bytes }
     }
 
     // The borrowed bytes again.

@@ -24,7 +24,7 @@ impl<'a> TableMemory<'a> {
     pub fn new(numbers: &'a mut [u64]) -> TableMemory<'a>
         ensures { λ r. ⌜ r .numbers ≡ numbers .entry ⌝ }
     {
-        TableMemory { numbers }
+        Self { numbers }
     }
 
     // The borrowed row again.

@@ -1,7 +1,4 @@
-use mathlib.Core.Path.{_≡_, ap, _∙_}
-use Prim.Native.Nat.{_-_}
 use native.Mathlib.Omega.{arith}
-use Rattle.memory.specs.Row.{loaded}
 use Rattle.memory.proofs.Answering.{load-refused}
 use Rattle.memory.proofs.Joins.{joined-length, load-first, load-second}
 use Rattle.memory.proofs.joined.JoinedIsMemory.load.Needs as need
@@ -9,7 +6,7 @@ use Rattle.memory.proofs.joined.JoinedIsMemory.load.Needs as need
 pub returns-then-address-seam : need.returns-then-address-seam
 returns-then-address-seam g c =
     let m = c .args .self .now in
-    c .load .ensures ∙ load-first (g .F·Memory .row (m .first)) (g .S·Memory .row (m .second)) (c .args .address) (omega arith) (omega arith)
+    load-first (g .F·Memory .row (m .first)) (g .S·Memory .row (m .second)) (c .args .address) (omega arith) (omega arith) _ (c .load .ensures)
 
 pub returns-then-address-ge-CELLS : need.returns-then-address-ge-CELLS
 returns-then-address-ge-CELLS g c =
@@ -19,7 +16,5 @@ returns-then-address-ge-CELLS g c =
 pub returns : need.returns
 returns g c =
     let m = c .args .self .now in
-    let xs = g .F·Memory .row (m .first) in
-    let ys = g .S·Memory .row (m .second) in
-    let a = c .args .address in
-    c .load-2 .ensures ∙ ap (λ n. loaded ys (a - n)) (c .size-seam .ensures .value) ∙ load-second xs ys a (omega arith) (omega arith)
+    load-second (g .F·Memory .row (m .first)) (g .S·Memory .row (m .second)) (c .args .address) (omega arith)
+    _ (c .size-seam .ensures .value) (omega arith) _ (c .load-2 .ensures)

@@ -1,14 +1,10 @@
-use mathlib.Core.Path.{_≡_, refl, ap, sym, _∙_}
+use mathlib.Core.Path.{refl, sym, ap}
 use mathlib.Core.List.{_++_}
-use Prim.Native.Nat.{_-_}
 use native.Mathlib.Omega.{arith}
-use lib.ListN.{set}
 use Rattle.std.proofs.shelf.Lists.{set-past}
 use Rattle.words.specs.Meaning.{meaning}
-use Rattle.memory.specs.Row.{stored-answer}
-use Rattle.memory.specs.Joins.{joined-row, joined-beyond}
 use Rattle.memory.proofs.Answering.{store-refused}
-use Rattle.memory.proofs.Joins.{joined-length, store-first, store-second, set-first, set-second, beyond-first, beyond-second, second-kept, second-set, second-cut}
+use Rattle.memory.proofs.Joins.{joined-length, store-first, store-second, row-first, row-second, beyond-first, beyond-second, second-kept, second-set, second-cut}
 use Rattle.memory.proofs.joined.JoinedIsMemory.store.Needs as need
 
 pub returns-then-address-seam : need.returns-then-address-seam
@@ -18,15 +14,13 @@ returns-then-address-seam g c =
     let S = g .S·Memory in
     let xs = F .row (m .first) in
     let ys = S .row (m .second) in
-    let us = F .beyond (m .first) in
-    let vs = S .beyond (m .second) in
     let w = meaning (c .args .word) in
     let a = c .args .address in
     let done = c .store .ensures in
     record {
-      answer = done .answer ∙ store-first xs ys a (omega arith) (omega arith);
-      after = ap (λ r. joined-row r ys) (done .after) ∙ set-first xs ys a (omega arith) (omega arith) w;
-      rest = (λ i. joined-beyond (done .after i) ys (done .rest i) vs) ∙ beyond-first xs ys a (omega arith) (omega arith) us vs w;
+      answer = store-first xs ys a (omega arith) (omega arith) _ (done .answer);
+      after = row-first xs ys a (omega arith) (omega arith) w _ (done .after);
+      rest = beyond-first xs ys a (omega arith) (omega arith) w _ (done .after) _ (S .beyond (m .second)) _ (done .rest);
       lent = ap (λ l. l ++ S .lent (m .second)) (done .lent);
       first = done .after;
       second = second-kept xs ys a (omega arith) (omega arith) w;
@@ -54,18 +48,15 @@ returns g c =
     let S = g .S·Memory in
     let xs = F .row (m .first) in
     let ys = S .row (m .second) in
-    let us = F .beyond (m .first) in
-    let vs = S .beyond (m .second) in
     let w = meaning (c .args .word) in
     let a = c .args .address in
     let done = c .store-2 .ensures in
     let seam = c .size-seam .ensures .value in
-    let written : S .row (c .store-2 .last .self) ≡ set ys (a - _) w = done .after ∙ ap (λ n. set ys (a - n) w) seam in
     record {
-      answer = done .answer ∙ ap (λ n. stored-answer ys (a - n)) seam ∙ store-second xs ys a (omega arith) (omega arith);
-      after = ap (joined-row xs) written ∙ set-second xs ys a (omega arith) (omega arith) w;
-      rest = (λ i. joined-beyond xs (written i) us (done .rest i)) ∙ beyond-second xs ys a (omega arith) (omega arith) us vs w;
+      answer = store-second xs ys a (omega arith) _ seam (omega arith) _ (done .answer);
+      after = row-second xs ys a (omega arith) _ seam (omega arith) w _ (done .after);
+      rest = beyond-second xs ys a (omega arith) _ seam (omega arith) w _ (done .after) (F .beyond (m .first)) _ _ (done .rest);
       lent = ap (λ l. F .lent (m .first) ++ l) (done .lent);
       first = sym (set-past xs a w (omega arith));
-      second = written ∙ second-set xs ys a (omega arith) (omega arith) w;
+      second = second-set xs ys a (omega arith) _ seam (omega arith) w _ (done .after);
     }
