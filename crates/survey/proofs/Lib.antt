@@ -1,0 +1,7 @@
+pub mod Listing
+pub mod Counting
+pub mod Raising
+pub mod Skipping
+pub mod Loading
+pub mod Progressing
+pub mod Charting
