@@ -16,25 +16,26 @@ use Rattle.model.specs.Step.{step}
 use Rattle.model.specs.Run.{Runs, spent, already-halted, already-failed, steps-on, step-halts, step-faults}
 use Rattle.model.specs.Bench.{Call, placing, Answer, done, State, idle, visiting, cells-of, Does, places, places-no-cell, reads-cell, reads-no-cell, surveys, surveys-short, opens, runs, reads-register, reads-no-register, closes, History, Leads, made, next}
 use Rattle.model.specs.Lending.{Occurs, by-opening, Given, by-placing, Lent-only, Nothing-left-behind}
+use Rattle.model.specs.Authority.{No-more}
 use Rattle.model.proofs.Rows.{no-integer, same-capability}
-use Rattle.model.proofs.Narrowed.{Narrowed, narrowed-refl, narrowed-trans}
+use Rattle.model.proofs.Narrowed.{no-more-refl, no-more-trans, can-store, is-global, within}
 use Rattle.model.proofs.Steps.{Has, All-at, ended, Change, unchanged, changed, Moved, step-ends, all-set}
 
--- a capability that allows no more than one that was given
+-- a capability that gives no more than one that was given
 pub record Sourced (history : History) (c : Cap) : Type 0 where
   pub source : Cap
   pub given : Given source history
-  pub narrowed : Narrowed c source
+  pub no-more : No-more c source
 
 -- and that is Global
 abbrev Kept-global : History → Cap → Type 0
 Kept-global history c = Sourced history c × (c .locality ≡ Global)
 
-sourced-narrower : (history : History) (c d : Cap) → Narrowed c d → Sourced history d → Sourced history c
-sourced-narrower history c d n s = record { source = s .source; given = s .given; narrowed = narrowed-trans n (s .narrowed) }
+sourced-narrower : (history : History) (c d : Cap) → No-more c d → Sourced history d → Sourced history c
+sourced-narrower history c d n s = record { source = s .source; given = s .given; no-more = no-more-trans n (s .no-more) }
 
 sourced-earlier : (event : Call × Answer) (history : History) (c : Cap) → Sourced history c → Sourced (event ∷ history) c
-sourced-earlier event history c s = record { source = s .source; given = Given.earlier (s .given); narrowed = s .narrowed }
+sourced-earlier event history c s = record { source = s .source; given = Given.earlier (s .given); no-more = s .no-more }
 
 -- nothing that was given stores Local capabilities
 abbrev Stores-none : History → Type 0
@@ -65,20 +66,23 @@ record Safe (history : History) (m : Machine) : Type 0 where
   cells : All-at (Kept-global history) (m .cells)
 
 module _ (history : History) (none : Stores-none history) where
-  safe-change : (r before after : List Word) → All-at (Kept-global history) before → All-at (Sourced history) r → Change (Sourced history) before after → Safe history (record { registers = r; cells = after })
-  safe-change r before after kept all unchanged = record { registers = all; cells = kept }
-  safe-change r before after kept all (changed {c = c} {a = a} {w = w} s can within exists storable has) = record {
+  safe-change : (r₀ r before after : List Word) → All-at (Sourced history) r₀ → All-at (Kept-global history) before → All-at (Sourced history) r → Change r₀ before after → Safe history (record { registers = r; cells = after })
+  safe-change r₀ r before after had kept all unchanged = record { registers = all; cells = kept }
+  safe-change r₀ r before after had kept all (changed {c = c} {a = a} {w = w} i found can covers exists storable carried) = record {
     registers = all;
     cells = all-set (Kept-global history) before a w kept (λ d e.
-        (has d e, global (d .locality) (λ is. none (s .source) (s .given) (s .narrowed .weaker .can-store (storable (subst (λ (x : Word). T (is-local x)) (sym e) is))))));
+        let s : Sourced history c = had i c found in (
+          had (carried d e .0) d (carried d e .1),
+          global (d .locality) (λ is. none (s .source) (s .given) (can-store (s .no-more) (storable (subst (λ (x : Word). T (is-local x)) (sym e) is)))),
+        ));
   }
 
   safe-step : (m m′ : Machine) → Safe history m → step m ≡ moved m′ → Safe history m′
   safe-step m m′ safe e =
-      let now : Moved (Sourced history) (m .cells) m′ =
-      ended (Moved (Sourced history) (m .cells)) (step m) m′
-      (step-ends (Sourced history) (sourced-narrower history) m (safe .registers) (λ c a s can within exists d found. safe .cells a d found .0)) e in
-      safe-change (m′ .registers) (m .cells) (m′ .cells) (safe .cells) (now .registers) (now .change)
+      let now : Moved (Sourced history) (m .registers) (m .cells) m′ =
+      ended (Moved (Sourced history) (m .registers) (m .cells)) (step m) m′
+      (step-ends (Sourced history) (sourced-narrower history) m (safe .registers) (λ i c a found can covers exists d e. safe .cells a d e .0)) e in
+      safe-change (m .registers) (m′ .registers) (m .cells) (m′ .cells) (safe .registers) (safe .cells) (now .registers) (now .change)
 
   safe-runs : {budget n : ℕ} {m m′ : Machine} {status status′ : Status} → Runs budget m status n m′ status′ → Safe history m → Safe history m′
   safe-runs spent safe = safe
@@ -102,7 +106,7 @@ placed-global : (history : History) (a : ℕ) (w : Word) → Lent-only ((placing
 placed-global history a (integer z) lent = λ c e. no-integer e
 placed-global history a (capability d) lent = λ c e.
     subst (Kept-global ((placing a (capability d), done) ∷ history)) (same-capability e)
-    (record { source = d; given = by-placing; narrowed = narrowed-refl }, not-local (d .locality) (lent .placings a d Occurs.here .0))
+    (record { source = d; given = by-placing; no-more = no-more-refl }, not-local (d .locality) (lent .placings a d Occurs.here .0))
 
 safe-does : {history : History} {before after : State} {call : Call} {answer : Answer} → Lent-only ((call, answer) ∷ history) → Does before call answer after → Safe-state history before → Safe-state ((call, answer) ∷ history) after
 safe-does {history} lent (places {cells = cells} {a = a} {w = w} exists) safe =
@@ -113,7 +117,7 @@ safe-does {history} lent (reads-no-cell {cells = cells} h) safe = all-earlier _ 
 safe-does {history} lent (surveys {cells = cells} h k) safe = all-earlier _ history cells safe
 safe-does {history} lent (surveys-short {cells = cells} h) safe = all-earlier _ history cells safe
 safe-does {history} lent (opens {cells = cells} {hand = hand}) safe = record {
-  registers = λ i c e. record { source = c; given = by-opening i e; narrowed = narrowed-refl };
+  registers = λ i c e. record { source = c; given = by-opening i e; no-more = no-more-refl };
   cells = all-earlier _ history cells safe;
 }
 safe-does {history} lent (runs {m = m} r) safe = safe-runs _ (stores-none _ lent) r (safe-earlier _ history m safe)
@@ -137,4 +141,4 @@ kept-state (visiting m status) safe = safe .cells
 pub nothing-left-behind : {size : ℕ} {history : History} {state : State} → Leads size history state → Nothing-left-behind history state
 nothing-left-behind {state = state} l lent a c e =
     let kept = kept-state state (safe-leads l lent) a c e in
-    (kept .1, (kept .0 .source, kept .0 .given, kept .0 .narrowed .global (kept .1), kept .0 .narrowed .within))
+    (kept .1, (kept .0 .source, kept .0 .given, is-global (kept .0 .no-more) (kept .1), within (kept .0 .no-more)))

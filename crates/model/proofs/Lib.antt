@@ -13,3 +13,7 @@ pub mod Stand
 pub mod Running
 pub mod Surveying
 pub mod Checks
+pub mod Authority
+pub mod Arithmetic
+pub mod Course
+pub mod Calls

@@ -98,7 +98,7 @@ perform-like S r x y (write a w) size agree out (allowed.writes-through i found 
 perform-like S r x y pass size agree out allowed.passes = advance-like S r x y size agree
 perform-like S r x y (jump w) size agree out (allowed.jumps made) = record { registers = refl; size = size; cells = agree }
 perform-like S r x y halting size agree out allowed.stops = tt
-perform-like S r x y (faulting f) size agree out allowed.stops-by = refl
+perform-like S r x y (faulting f) size agree out (allowed.stops-by proper) = refl
 
 -- what two runs come to
 pub record Ran (S : ℕ → Type 0) (n n′ : ℕ) (m m′ : Machine) (s s′ : Status) : Type 0 where

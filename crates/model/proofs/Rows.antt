@@ -54,6 +54,10 @@ pub and-right : (a b : Bool) → T (a && b) → T b
 and-right true b t = t
 and-right false b t = absurd t
 
+pub and-both : (a b : Bool) → T a → T b → T (a && b)
+and-both true b t u = u
+and-both false b t u = t
+
 pub implied : (a b : Bool) → T (implies a b) → T a → T b
 implied true b t u = t
 implied false b t u = absurd u

@@ -13,9 +13,10 @@ use Rattle.model.specs.Machine.{Machine, Effect, put, read, write, pass, jump,
 use Rattle.model.specs.Numbers.{top}
 use Rattle.model.specs.Step.{request, advanced, perform, step}
 use Rattle.model.proofs.Rows.{same-capability, at-set}
-use Rattle.model.proofs.Narrowed.{Narrowed, narrowed-cursor}
+use Rattle.model.specs.Authority.{No-more}
+use Rattle.model.proofs.Narrowed.{narrowed-cursor}
 use Rattle.model.proofs.Allowed as allowed
-use Rattle.model.proofs.Allowed.{Origin, Made, Allowed, request-allowed}
+use Rattle.model.proofs.Allowed.{Origin, Made, Carried, Allowed, request-allowed}
 
 -- P holds of the capability in a word, if it has one; of each capability in a row
 abbrev pub Has : (Cap → Type 0) → Word → Type 0
@@ -36,14 +37,19 @@ Ends Q (faults f) = Unit {0}
 pub ended : (Q : Machine → Type 0) (s : Stepped) (m : Machine) → Ends Q s → s ≡ moved m → Q m
 ended Q s m h e = subst (Ends Q) e h
 
--- what a step does to the cells: nothing, or a word is written through a capability
-pub data Change (P : Cap → Type 0) (cells : List Word) : List Word → Type 0 where
-  unchanged : Change P cells cells
-  changed : {c : Cap} {a : ℕ} {w : Word} → P c → T (writes (c .permission)) → Covers c a → a < length cells → (T (is-local w) → T (stores-local (c .permission))) → Has P w → Change P cells (set cells a w)
+-- what a step does to the cells: nothing, or a word goes into one through a register's capability
+pub data Change (r cells : List Word) : List Word → Type 0 where
+  unchanged : Change r cells cells
+  changed : {c : Cap} {a : ℕ} {w : Word} (i : ℕ) → at r i ≡ capability c → T (writes (c .permission)) → Covers c a → a < length cells → (T (is-local w) → T (stores-local (c .permission))) → Carried r w → Change r cells (set cells a w)
 
-pub record Moved (P : Cap → Type 0) (cells : List Word) (m : Machine) : Type 0 where
+-- what a step from the registers r and the cells gives
+pub record Moved (P : Cap → Type 0) (r cells : List Word) (m : Machine) : Type 0 where
   pub registers : All-at P (m .registers)
-  pub change : Change P cells (m .cells)
+  pub change : Change r cells (m .cells)
+
+-- P holds of what the registers read
+abbrev pub Readable : (Cap → Type 0) → List Word → List Word → Type 0
+Readable P r cells = (i : ℕ) (c : Cap) (a : ℕ) → at r i ≡ capability c → T (reads (c .permission)) → Covers c a → a < length cells → Has P (at cells a)
 
 chosen : (Q : Machine → Type 0) (b : Bool) (m : Machine) (f : Fault) → Q m → Ends Q (cond b (moved m) (faults f))
 chosen Q true m f q = q
@@ -57,33 +63,33 @@ there Q a n s f k = by-test (ltb a n) (λ t. k (ltb→lt a n t))
     by-test true h = h tt
     by-test false h = tt
 
-module _ (P : Cap → Type 0) (closed : (c d : Cap) → Narrowed c d → P d → P c) where
+module _ (P : Cap → Type 0) (closed : (c d : Cap) → No-more c d → P d → P c) where
   made-has : (r : List Word) (w : Word) → All-at P r → Made r w → Has P w
   made-has r w all made c e =
       let o : Origin r c = made c e in
-      closed c (o .source) (o .narrowed) (all (o .number) (o .source) (o .found))
+      closed c (o .source) (o .no-more) (all (o .number) (o .source) (o .found))
 
-  advanced-ends : (r cells₀ cells : List Word) (w : Word) → at r 0 ≡ w → All-at P r → Change P cells₀ cells → Ends (Moved P cells₀) (advanced r cells w)
-  advanced-ends r cells₀ cells (integer z) found all change = tt
-  advanced-ends r cells₀ cells (capability pc) found all change =
-      chosen (Moved P cells₀) (ltb (pc .cursor) top) _ _ (record {
+  advanced-ends : (r₀ cells₀ r cells : List Word) (w : Word) → at r 0 ≡ w → All-at P r → Change r₀ cells₀ cells → Ends (Moved P r₀ cells₀) (advanced r cells w)
+  advanced-ends r₀ cells₀ r cells (integer z) found all change = tt
+  advanced-ends r₀ cells₀ r cells (capability pc) found all change =
+      chosen (Moved P r₀ cells₀) (ltb (pc .cursor) top) _ _ (record {
         registers = all-set P r 0 _ all (λ c e. subst P (same-capability e) (closed (with-cursor pc (suc (pc .cursor))) pc (narrowed-cursor pc (suc (pc .cursor))) (all 0 pc found)));
         change = change;
       })
 
-  perform-ends : (r cells : List Word) (e : Effect) → All-at P r → ((c : Cap) (a : ℕ) → P c → T (reads (c .permission)) → Covers c a → a < length cells → Has P (at cells a)) → Allowed r e → Ends (Moved P cells) (perform r cells e)
+  perform-ends : (r cells : List Word) (e : Effect) → All-at P r → Readable P r cells → Allowed r e → Ends (Moved P r cells) (perform r cells e)
   unfolding perform
   perform-ends r cells (put d w) all readable (allowed.puts made) =
-      advanced-ends _ cells cells _ refl (all-set P r d w all (made-has r w all made)) unchanged
+      advanced-ends r cells _ cells _ refl (all-set P r d w all (made-has r w all made)) unchanged
   perform-ends r cells (read d a) all readable (allowed.reads-through {c = c} i found can within) =
-      there (Moved P cells) a (length cells) _ _ (λ exists. advanced-ends _ cells cells _ refl (all-set P r d _ all (readable c a (all i c found) can within exists)) unchanged)
-  perform-ends r cells (write a w) all readable (allowed.writes-through {c = c} i found can within storable made) =
-      there (Moved P cells) a (length cells) _ _ (λ exists. advanced-ends r cells _ _ refl all (changed (all i c found) can within exists storable (made-has r w all made)))
-  perform-ends r cells pass all readable allowed.passes = advanced-ends r cells cells _ refl all unchanged
+      there (Moved P r cells) a (length cells) _ _ (λ exists. advanced-ends r cells _ cells _ refl (all-set P r d _ all (readable i c a found can within exists)) unchanged)
+  perform-ends r cells (write a w) all readable (allowed.writes-through i found can within storable carried) =
+      there (Moved P r cells) a (length cells) _ _ (λ exists. advanced-ends r cells r _ _ refl all (changed i found can within exists storable carried))
+  perform-ends r cells pass all readable allowed.passes = advanced-ends r cells r cells _ refl all unchanged
   perform-ends r cells (jump w) all readable (allowed.jumps made) = record { registers = all-set P r 0 w all (made-has r w all made); change = unchanged }
   perform-ends r cells halting all readable allowed.stops = tt
-  perform-ends r cells (faulting f) all readable allowed.stops-by = tt
+  perform-ends r cells (faulting f) all readable (allowed.stops-by proper) = tt
 
-  pub step-ends : (m : Machine) → All-at P (m .registers) → ((c : Cap) (a : ℕ) → P c → T (reads (c .permission)) → Covers c a → a < length (m .cells) → Has P (at (m .cells) a)) → Ends (Moved P (m .cells)) (step m)
+  pub step-ends : (m : Machine) → All-at P (m .registers) → Readable P (m .registers) (m .cells) → Ends (Moved P (m .registers) (m .cells)) (step m)
   unfolding step
   step-ends m all readable = perform-ends (m .registers) (m .cells) (request m) all readable (request-allowed m)

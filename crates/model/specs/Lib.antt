@@ -11,3 +11,7 @@ pub mod Writing
 pub mod Seeing
 pub mod Lending
 pub mod Findings
+pub mod Authority
+pub mod Arithmetic
+pub mod Course
+pub mod Calls
