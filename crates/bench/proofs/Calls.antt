@@ -17,8 +17,9 @@ use Rattle.words.specs.Refusals.{refusal-number}
 use Rattle.words.specs.Meaning.{meaning}
 use Rattle.memory.specs.Row as row
 use Rattle.memory.specs.Row.{load-answer, loaded, store-answer, stored-answer}
-use Rattle.model.specs.Bench.{Answer, refused, word, idle, Does, placing, reading, places, places-no-cell, reads-cell, reads-no-cell}
-use Rattle.bench.specs.Answers.{done-answer, word-answer}
+use Rattle.model.specs.Bench.{Answer, refused, word, idle, Does, placing, reading, places, places-no-cell, reads-cell, reads-no-cell, survey, surveys, surveys-short, chart-left}
+use Rattle.survey.specs.Surveyed.{Surveyed}
+use Rattle.bench.specs.Answers.{done-answer, word-answer, survey-answer}
 
 -- Where an address lies, by what a store or a load answered.
 stored : (cells : List Word) (a : ℕ) → row.given tt ≡ stored-answer cells a → a < length cells
@@ -49,3 +50,14 @@ read-does cells a (Ok w) e =
 read-does cells a (Err x) e =
     let no = not-read cells a (refusal-number x) e in
     subst (λ (n : ℕ). Does (idle cells) (reading a) (refused n) (idle cells)) (sym (no .1)) (reads-no-cell (no .0))
+
+pub survey-does : (hand cells : List Word) (chart chart′ : List ℕ) (r : Result (ℕ × ℕ) Refusal) → Surveyed hand cells chart r chart′ →
+    Does (idle cells) (survey hand chart) (survey-answer r chart′) (idle cells)
+survey-does hand cells chart chart′ (Ok counts) s = surveys (s .0) (s .1)
+survey-does hand cells chart chart′ (Err e) s =
+    subst (λ (n : ℕ). Does (idle cells) (survey hand chart) (refused n) (idle cells)) (sym (s .1)) (surveys-short (s .0))
+
+pub survey-leaves : (hand cells : List Word) (chart chart′ : List ℕ) (r : Result (ℕ × ℕ) Refusal) → Surveyed hand cells chart r chart′ →
+    chart′ ≡ chart-left chart (survey-answer r chart′)
+survey-leaves hand cells chart chart′ (Ok counts) s = refl
+survey-leaves hand cells chart chart′ (Err e) s = s .2

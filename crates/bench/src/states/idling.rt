@@ -2,12 +2,15 @@ ghost use mathlib.Core.Path.{_≡_};
 ghost use lib.ListN.{length, replicate};
 ghost use Rattle.words.specs.Word.{zero-word};
 ghost use Rattle.words.specs.Meaning.{meaning};
-ghost use Rattle.model.specs.Bench.{placing, reading};
+ghost use Rattle.groups.specs.Hands.{hand-words};
+ghost use Rattle.model.specs.Bench.{placing, reading, survey as surveying, chart-left};
 ghost use Rattle.model.specs.Findings.{Starts, Lawful};
 ghost use Rattle.bench.specs.States.{idle-of};
-ghost use Rattle.bench.specs.Answers.{done-answer, word-answer};
+ghost use Rattle.bench.specs.Answers.{done-answer, word-answer, survey-answer};
 use super::Idle;
+use groups::Hand;
 use memory::Memory;
+use survey::survey;
 use words::Refusal;
 use words::Word;
 
@@ -41,6 +44,15 @@ impl<M: Memory> Idle<M> {
         ensures { λ r. ⌜ Lawful (idle-of row (now (self .entry))) (reading address) (word-answer r) (idle-of row (now (self .entry))) ⌝ }
     {
         self.memory.load(address)
+    }
+
+    // Charts what the holder of a hand could reach, and counts it: the cells marked at all, and those marked 2 (writable). Refused where the chart is shorter
+    // than the memory's size, and the chart then stays.
+    pub fn survey(&self, hand: &Hand, chart: &mut [u8]) -> Result<(usize, usize), Refusal>
+        ensures lawful { λ r. ⌜ Lawful (idle-of row (now (self .entry))) (surveying (hand-words (now (hand .entry))) (now (chart .entry))) (survey-answer r (now (chart .exit))) (idle-of row (now (self .entry))) ⌝ }
+        ensures left { λ r. ⌜ now (chart .exit) ≡ chart-left (now (chart .entry)) (survey-answer r (now (chart .exit))) ⌝ }
+    {
+        survey(&self.memory, hand, chart)
     }
 
     // The memory again, as it stands.
