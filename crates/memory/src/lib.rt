@@ -14,5 +14,6 @@ pub use memory::CELLS;
 pub use memory::Memory;
 pub use packed::PackedIsMemory;
 pub use packed::PackedMemory;
+pub use packed::load_packed;
 pub use table::TableIsMemory;
 pub use table::TableMemory;

@@ -6,7 +6,7 @@ ghost use lib.ListN.{length, set, drop};
 ghost use denote.Ref.{now as held, name};
 ghost use Rattle.words.specs.Meaning.{meaning};
 ghost use Rattle.groups.specs.Groups.{group-at};
-ghost use Rattle.memory.specs.Row.{store-answer, stored-answer};
+ghost use Rattle.memory.specs.Row.{load-answer, loaded, store-answer, stored-answer};
 ghost use Rattle.memory.specs.Packs.{packed-size, packed-row, packed-after, packed-bounded, plain-group, word-group, with-group};
 use super::memory::CELLS;
 use super::memory::Memory;
@@ -47,6 +47,22 @@ fn read_group(bytes: &[u8], address: usize) -> Word
         Ok(word) => word,
         Err(_) => Word::Int(0),
     }
+}
+
+fn packed_size(bytes: &[u8]) -> usize
+    ensures { λ r. ⌜ r ≡ packed-size (now (bytes .entry)) ⌝ }
+{
+    (bytes.len() / 8).min(CELLS)
+}
+
+// The word of a cell of packed bytes, as a packed memory on them loads it; refused where there is no such cell.
+pub fn load_packed(bytes: &[u8], address: usize) -> Result<Word, Refusal>
+    ensures { λ r. ⌜ load-answer r ≡ loaded (packed-row (now (bytes .entry))) address ⌝ }
+{
+    if address >= packed_size(bytes) {
+        return Err(Refusal::NoCell);
+    }
+    Ok(read_group(bytes, address))
 }
 
 // Writes the word's group into the first eight bytes. It means that word.
@@ -90,14 +106,11 @@ pub impl<'a> Memory for PackedMemory<'a> as PackedIsMemory {
     }
 
     fn size(&self) -> usize {
-        (self.bytes.len() / 8).min(Self::MOST)
+        packed_size(self.bytes)
     }
 
     fn load(&self, address: usize) -> Result<Word, Refusal> {
-        if address >= self.size() {
-            return Err(Refusal::NoCell);
-        }
-        Ok(read_group(self.bytes, address))
+        load_packed(self.bytes, address)
     }
 
     fn store(&mut self, address: usize, word: Word) -> Result<(), Refusal>
