@@ -71,9 +71,13 @@ pub record Says (bytes : List ℕ) (budget : ℕ) (hand : Hand) (cells : List �
   pub cells-in : Cells-in bytes
   pub cells-are : cells ≡ drop 132 bytes
 
--- Every input is a sheet, or of a length that no sheet has (7, at 0), or has a first group that packs no word.
-abbrev pub Reads : List ℕ → Result Sheet Malformed → Type 0
-Reads bytes (Ok s) = Says bytes (s .budget) (s .hand) (now (s .cells))
-Reads bytes (Err m) =
+-- The input is no sheet: it has a length that no sheet has (7, at 0), or a first group that packs no word (5).
+abbrev pub Malformed-at : List ℕ → Malformed → Type 0
+Malformed-at bytes m =
     ((sheet-length (length bytes) ≡ false) × (refusal-number (m .refusal) ≡ 7) × (m .offset ≡ 0))
     ⊎ ((sheet-length (length bytes) ≡ true) × First-malformed bytes m)
+
+-- Every input is a sheet or is none.
+abbrev pub Reads : List ℕ → Result Sheet Malformed → Type 0
+Reads bytes (Ok s) = Says bytes (s .budget) (s .hand) (now (s .cells))
+Reads bytes (Err m) = Malformed-at bytes m
