@@ -1,8 +1,7 @@
 ghost use mathlib.Core.Path.{_≡_};
 ghost use mathlib.Core.List.{_++_};
-ghost use Prim.Native.Nat.{_≤_};
 ghost use lib.Dec.{lit≤};
-ghost use lib.ListN.{length, set};
+ghost use lib.ListN.{set};
 ghost use Rattle.words.specs.Meaning.{meaning};
 ghost use Rattle.memory.specs.Row.{store-answer, stored-answer};
 ghost use Rattle.memory.specs.Joins.{joined-row, joined-bounded, joined-beyond, second-after, Told-apart};
@@ -26,11 +25,11 @@ impl<F: Memory, S: Memory> JoinedMemory<F, S> {
         JoinedMemory { first, second }
     }
 
-    // The two memories again.
+    // The two memories again, and what is known of each by what is known of the whole.
     pub fn into_parts(self) -> (F, S)
         ensures first { λ r. ⌜ r .0 ≡ self .first ⌝ }
         ensures second { λ r. ⌜ r .1 ≡ self .second ⌝ }
-        ensures apart { λ r. ⌜ Told-apart (F·Memory .row (r .0)) (S·Memory .row (r .1)) (F·Memory .beyond (r .0)) (S·Memory .beyond (r .1)) ⌝ }
+        ensures apart { λ _. ⌜ Told-apart (F·Memory .row (self .first)) (S·Memory .row (self .second)) (F·Memory .beyond (self .first)) (S·Memory .beyond (self .second)) ⌝ }
     {
         let JoinedMemory { first, second } = self;
         (first, second)
@@ -71,6 +70,7 @@ pub impl<F: Memory, S: Memory> Memory for JoinedMemory<F, S> as JoinedIsMemory {
         self.second.load(address - seam)
     }
 
+    // What the trait asks at this row, and how each part's row ends.
     fn store(&mut self, address: usize, word: Word) -> Result<(), Refusal>
         ensures answer { λ r. ⌜ store-answer r ≡ stored-answer (joined-row (F·Memory .row (now (self .entry) .first)) (S·Memory .row (now (self .entry) .second))) address ⌝ }
         ensures after { λ _. ⌜ joined-row (F·Memory .row (now (self .exit) .first)) (S·Memory .row (now (self .exit) .second)) ≡ set (joined-row (F·Memory .row (now (self .entry) .first)) (S·Memory .row (now (self .entry) .second))) address (meaning word) ⌝ }

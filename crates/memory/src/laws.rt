@@ -1,5 +1,6 @@
 ghost use mathlib.Core.Path.{_≡_};
-ghost use lib.ListN.{set};
+ghost use Prim.Native.Nat.{_+_};
+ghost use lib.ListN.{length, set};
 ghost use Rattle.words.specs.Meaning.{meaning};
 ghost use Rattle.memory.specs.Row.{load-answer, loaded-after, store-answer, stored-answer};
 ghost use Rattle.memory.specs.Joins.{joined-row};
@@ -9,7 +10,7 @@ use super::memory::Memory;
 use words::Refusal;
 use words::Word;
 
-// Stores a word and then loads one: the word that was stored if it is the same cell, and the old one elsewhere.
+// Stores a word and then loads one: the word that was stored if it is the same cell, and the old one elsewhere. The size stays.
 pub fn store_then_load<M: Memory>(
     memory: &mut M,
     address: usize,
@@ -20,6 +21,7 @@ pub fn store_then_load<M: Memory>(
     ensures after { λ _. ⌜ row (now (memory .exit)) ≡ set (row (now (memory .entry))) address (meaning word) ⌝ }
     ensures rest { λ _. ⌜ beyond (now (memory .exit)) ≡ beyond (now (memory .entry)) ⌝ }
     ensures lent { λ _. ⌜ lent (now (memory .exit)) ≡ lent (now (memory .entry)) ⌝ }
+    ensures size { λ _. ⌜ length (row (now (memory .exit))) ≡ length (row (now (memory .entry))) ⌝ }
 {
     let _ = memory.store(address, word);
     memory.load(read)
@@ -39,6 +41,13 @@ pub fn store_twice<M: Memory>(
 {
     let _ = memory.store(address, earlier);
     memory.store(address, later)
+}
+
+// How many cells a memory has less than its kind can have. No size exceeds the most, so the difference is there.
+pub fn spare_cells<M: Memory>(memory: &M) -> usize
+    ensures { λ r. ⌜ r + length (row (now (memory .entry))) ≡ M·Memory .most ⌝ }
+{
+    M::most_cells() - memory.size()
 }
 
 // Groups a pile of three the other way: its row stays, since joining is associative.

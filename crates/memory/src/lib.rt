@@ -8,6 +8,7 @@ mod table;
 pub use joined::JoinedIsMemory;
 pub use joined::JoinedMemory;
 pub use laws::regroup;
+pub use laws::spare_cells;
 pub use laws::store_then_load;
 pub use laws::store_twice;
 pub use memory::CELLS;

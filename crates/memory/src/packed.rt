@@ -113,6 +113,7 @@ pub impl<'a> Memory for PackedMemory<'a> as PackedIsMemory {
         load_packed(self.bytes, address)
     }
 
+    // What the trait asks at this row, and how every byte ends.
     fn store(&mut self, address: usize, word: Word) -> Result<(), Refusal>
         ensures answer { λ r. ⌜ store-answer r ≡ stored-answer (packed-row (now (now (self .entry) .bytes))) address ⌝ }
         ensures after { λ _. ⌜ packed-row (now (now (self .exit) .bytes)) ≡ set (packed-row (now (now (self .entry) .bytes))) address (meaning word) ⌝ }

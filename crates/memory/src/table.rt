@@ -1,11 +1,10 @@
 ghost use mathlib.Core.Path.{_≡_};
 ghost use mathlib.Core.List.{[], _∷_};
-ghost use Prim.Native.Nat.{_≤_};
 ghost use lib.Dec.{lit≤};
-ghost use lib.ListN.{length, set, drop};
+ghost use lib.ListN.{set, drop};
 ghost use denote.Ref.{now as held, name};
 ghost use Rattle.words.specs.Meaning.{meaning};
-ghost use Rattle.memory.specs.Row.{load-answer, loaded, store-answer, stored-answer};
+ghost use Rattle.memory.specs.Row.{store-answer, stored-answer};
 ghost use Rattle.memory.specs.Tables.{table-row, table-after, table-bounded};
 use super::memory::CELLS;
 use super::memory::Memory;
@@ -69,6 +68,7 @@ pub impl<'a> Memory for TableMemory<'a> as TableIsMemory {
         Ok(plain_word(self.numbers[address]))
     }
 
+    // What the trait asks at this row, and how every number ends.
     fn store(&mut self, address: usize, word: Word) -> Result<(), Refusal>
         ensures answer { λ r. ⌜ store-answer r ≡ stored-answer (table-row (now (now (self .entry) .numbers))) address ⌝ }
         ensures after { λ _. ⌜ table-row (now (now (self .exit) .numbers)) ≡ set (table-row (now (now (self .entry) .numbers))) address (meaning word) ⌝ }
