@@ -42,9 +42,15 @@ pub data Change (r cells : List Word) : List Word → Type 0 where
   unchanged : Change r cells cells
   changed : {c : Cap} {a : ℕ} {w : Word} (i : ℕ) → at r i ≡ capability c → T (writes (c .permission)) → Covers c a → a < length cells → (T (is-local w) → T (stores-local (c .permission))) → Carried r w → Change r cells (set cells a w)
 
+-- and what it does to the registers: the pc changes, and maybe one more
+pub data Wrote (r : List Word) : List Word → Type 0 where
+  pc-only : (v : Word) → Wrote r (set r 0 v)
+  register : (d : ℕ) (w v : Word) → Wrote r (set (set r d w) 0 v)
+
 -- what a step from the registers r and the cells gives
 pub record Moved (P : Cap → Type 0) (r cells : List Word) (m : Machine) : Type 0 where
   pub registers : All-at P (m .registers)
+  pub wrote : Wrote r (m .registers)
   pub change : Change r cells (m .cells)
 
 -- P holds of what the registers read
@@ -69,24 +75,25 @@ module _ (P : Cap → Type 0) (closed : (c d : Cap) → No-more c d → P d → 
       let o : Origin r c = made c e in
       closed c (o .source) (o .no-more) (all (o .number) (o .source) (o .found))
 
-  advanced-ends : (r₀ cells₀ r cells : List Word) (w : Word) → at r 0 ≡ w → All-at P r → Change r₀ cells₀ cells → Ends (Moved P r₀ cells₀) (advanced r cells w)
-  advanced-ends r₀ cells₀ r cells (integer z) found all change = tt
-  advanced-ends r₀ cells₀ r cells (capability pc) found all change =
+  advanced-ends : (r₀ cells₀ r cells : List Word) (w : Word) → at r 0 ≡ w → All-at P r → ((v : Word) → Wrote r₀ (set r 0 v)) → Change r₀ cells₀ cells → Ends (Moved P r₀ cells₀) (advanced r cells w)
+  advanced-ends r₀ cells₀ r cells (integer z) found all wrote change = tt
+  advanced-ends r₀ cells₀ r cells (capability pc) found all wrote change =
       chosen (Moved P r₀ cells₀) (ltb (pc .cursor) top) _ _ (record {
         registers = all-set P r 0 _ all (λ c e. subst P (same-capability e) (closed (with-cursor pc (suc (pc .cursor))) pc (narrowed-cursor pc (suc (pc .cursor))) (all 0 pc found)));
+        wrote = wrote _;
         change = change;
       })
 
   perform-ends : (r cells : List Word) (e : Effect) → All-at P r → Readable P r cells → Allowed r e → Ends (Moved P r cells) (perform r cells e)
   unfolding perform
   perform-ends r cells (put d w) all readable (allowed.puts made) =
-      advanced-ends r cells _ cells _ refl (all-set P r d w all (made-has r w all made)) unchanged
+      advanced-ends r cells _ cells _ refl (all-set P r d w all (made-has r w all made)) (λ v. register d w v) unchanged
   perform-ends r cells (read d a) all readable (allowed.reads-through {c = c} i found can within) =
-      there (Moved P r cells) a (length cells) _ _ (λ exists. advanced-ends r cells _ cells _ refl (all-set P r d _ all (readable i c a found can within exists)) unchanged)
+      there (Moved P r cells) a (length cells) _ _ (λ exists. advanced-ends r cells _ cells _ refl (all-set P r d _ all (readable i c a found can within exists)) (λ v. register d (at cells a) v) unchanged)
   perform-ends r cells (write a w) all readable (allowed.writes-through i found can within storable carried) =
-      there (Moved P r cells) a (length cells) _ _ (λ exists. advanced-ends r cells r _ _ refl all (changed i found can within exists storable carried))
-  perform-ends r cells pass all readable allowed.passes = advanced-ends r cells r cells _ refl all unchanged
-  perform-ends r cells (jump w) all readable (allowed.jumps made) = record { registers = all-set P r 0 w all (made-has r w all made); change = unchanged }
+      there (Moved P r cells) a (length cells) _ _ (λ exists. advanced-ends r cells r _ _ refl all (λ v. pc-only v) (changed i found can within exists storable carried))
+  perform-ends r cells pass all readable allowed.passes = advanced-ends r cells r cells _ refl all (λ v. pc-only v) unchanged
+  perform-ends r cells (jump w) all readable (allowed.jumps made) = record { registers = all-set P r 0 w all (made-has r w all made); wrote = pc-only w; change = unchanged }
   perform-ends r cells halting all readable allowed.stops = tt
   perform-ends r cells (faulting f) all readable (allowed.stops-by proper) = tt
 

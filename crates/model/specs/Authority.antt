@@ -1,6 +1,7 @@
 -- What one step can come to hold and change: it goes by the capabilities that stand in the registers.
 use mathlib.Core.Path.{_≡_}
 use mathlib.Core.Logic.{_≢_}
+use mathlib.Core.List.{List}
 use Prim.Native.Nat.{ℕ}
 use lib.Dec.{T}
 use lib.ListN.{length}
@@ -38,15 +39,19 @@ pub record Can-store (m : Machine) (a : ℕ) (w : Word) : Type 0 where
   pub can-store : T (is-local w) → T (stores-local (through .permission))
   pub carried : (c : Cap) → w ≡ capability c → (i : ℕ) × (at (m .registers) i ≡ capability c)
 
--- The cell has another word in m′ than in m.
-abbrev pub Changed : Machine → Machine → ℕ → Type 0
-Changed m m′ a = at (m′ .cells) a ≢ at (m .cells) a
+-- The row has another word at the place i.
+abbrev pub Changed : List Word → List Word → ℕ → Type 0
+Changed row row′ i = at row′ i ≢ at row i
 
--- What a step from m to m′ keeps to.
+-- What a step from m to m′ keeps to: each capability in a register afterwards gives no more than one that was at hand; a cell changes only as a register
+-- allows; at most one cell changes, and at most one register besides the pc; the memory stays as long as it was.
 pub record Within-authority (m m′ : Machine) : Type 0 where
   pub gains-nothing : (i : ℕ) (c : Cap) → at (m′ .registers) i ≡ capability c → From-hand m c
-  pub writes-through : (a : ℕ) → Changed m m′ a → Can-store m a (at (m′ .cells) a)
-  pub one-cell : (a b : ℕ) → Changed m m′ a → Changed m m′ b → a ≡ b
+  pub writes-through : (a : ℕ) → Changed (m .cells) (m′ .cells) a → Can-store m a (at (m′ .cells) a)
+  pub one-cell : (a b : ℕ) → Changed (m .cells) (m′ .cells) a → Changed (m .cells) (m′ .cells) b → a ≡ b
+  pub one-register :
+      (i j : ℕ) → i ≢ 0 → j ≢ 0 → Changed (m .registers) (m′ .registers) i → Changed (m .registers) (m′ .registers) j →
+      i ≡ j
   pub same-size : length (m′ .cells) ≡ length (m .cells)
 
 abbrev pub Steps-within-authority : Type 0

@@ -44,8 +44,7 @@ abbrev pub loading : ℕ → Word → Effect
 loading d w =
     with-capability w (λ c.
     check (reads (c .permission)) NotPermitted (
-    check (covers c (c .cursor)) NotCovered (
-    read d (c .cursor))))
+    check (covers c (c .cursor)) NotCovered (read d (c .cursor))))
 
 -- store of w through the target: a capability (13) that writes (14) and covers its cursor (15); a Local w needs the permission to store it (17).
 abbrev pub storing : Word → Word → Effect
@@ -56,17 +55,18 @@ storing target w =
     check (implies (is-local w) (stores-local (c .permission))) LocalNotStorable (
     write (c .cursor) w))))
 
+-- plus and minus: both are integers (13), and the sum or difference is one of 32 bits (18).
 abbrev pub adding : ℕ → Word → Word → Effect
 adding d a b = with-integers a b (λ x y. put-integer d (x +ℤ y))
 
 abbrev pub subtracting : ℕ → Word → Word → Effect
 subtracting d a b = with-integers a b (λ x y. put-integer d (x -ℤ y))
 
--- lt: 1 where the first is below the second, else 0.
+-- lt: both are integers (13); 1 where the first is below the second, else 0.
 abbrev pub comparing : ℕ → Word → Word → Effect
 comparing d a b = with-integers a b (λ x y. put-natural d (one-if (ltZ x y)))
 
--- quot: the divisor is not 0 (20).
+-- quot: both are integers (13), the divisor is not 0 (20), and the quotient is one of 32 bits (18).
 abbrev pub dividing : ℕ → Word → Word → Effect
 dividing d a b =
     with-integers a b (λ x y.
@@ -108,6 +108,7 @@ testing d (capability c) = put-natural d 1
 abbrev pub inspecting : (Cap → ℕ) → ℕ → Word → Effect
 inspecting part d w = with-capability w (λ c. put-natural d (part c))
 
+-- The twenty instructions, from the registers r. D is d, the operands A and B are a and b.
 unfoldable pub effect : List Word → Instruction → Effect
 effect r Fail = faulting OrderedFail
 effect r Halt = halting

@@ -6,6 +6,7 @@ use Rattle.model.specs.Writing.{Only-writable-change}
 use Rattle.model.specs.Seeing.{Unreached-unseen}
 use Rattle.model.specs.Lending.{Nothing-left-behind}
 
+-- After a list of calls that led to the state: who could have changed a cell, what could not have been seen, and what the visits left behind.
 pub record Findings (size : ℕ) (history : History) (state : State) : Type 0 where
   pub only-writable-change : Only-writable-change size history state
   pub unreached-unseen : Unreached-unseen size history state

@@ -17,7 +17,9 @@ pub data Runs : ℕ → Machine → Status → ℕ → Machine → Status → Ty
   already-halted : {budget : ℕ} {m : Machine} → Runs budget m Halted zero m Halted
   already-failed : {budget : ℕ} {m : Machine} {f : Fault} {at : Option ℕ} → Runs budget m (Failed f at) zero m (Failed f at)
   -- a step, and then the rest
-  steps-on : {budget n : ℕ} {m m′ m″ : Machine} {status : Status} → step m ≡ moved m′ → Runs budget m′ Running n m″ status → Runs (suc budget) m Running (suc n) m″ status
+  steps-on :
+      {budget n : ℕ} {m m′ m″ : Machine} {status : Status} → step m ≡ moved m′ →
+      Runs budget m′ Running n m″ status → Runs (suc budget) m Running (suc n) m″ status
   -- a step that halts or faults counts, changes nothing and ends the run
   step-halts : {budget : ℕ} {m : Machine} → step m ≡ halts → Runs (suc budget) m Running (suc zero) m Halted
   step-faults : {budget : ℕ} {m : Machine} {f : Fault} → step m ≡ faults f → Runs (suc budget) m Running (suc zero) m (Failed f (place m))

@@ -61,6 +61,7 @@ perform r cells (jump w) = moved (record { registers = set r 0 w; cells = cells 
 perform r cells halting = halts
 perform r cells (faulting f) = faults f
 
+-- One step: what the machine is to do next is performed.
 unfoldable pub step : Machine → Stepped
 step m = perform (m .registers) (m .cells) (request m)
 

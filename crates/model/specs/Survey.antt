@@ -13,7 +13,9 @@ use Rattle.words.specs.Word.{Cap, Word, capability, at, Covers}
 -- A capability is held when the hand has it, or when a cell has it that a held capability other than O covers. An E counts: a jump to it gives RX.
 pub data Held (hand cells : List Word) : Cap → Type 0 where
   in-hand : {c : Cap} (i : ℕ) → at hand i ≡ capability c → Held hand cells c
-  in-cell : {via c : Cap} (a : ℕ) → Held hand cells via → via .permission ≢ O → Covers via a → at cells a ≡ capability c → Held hand cells c
+  in-cell :
+      {via c : Cap} (a : ℕ) → Held hand cells via → via .permission ≢ O → Covers via a → at cells a ≡ capability c →
+      Held hand cells c
 
 -- A cell is reached when a held capability other than O covers it.
 pub record Reached (hand cells : List Word) (a : ℕ) : Type 0 where

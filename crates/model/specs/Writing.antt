@@ -34,8 +34,12 @@ Not-placed a event = (w : Word) → event ≢ (placing a w, done)
 -- The address was writable in the survey of a visit, its hand's at its opening, and the visit was opened since the last accepted placing there, or since
 -- the making without one.
 pub data Writable-since (size a : ℕ) : History → Type 0 where
-  opened : {history : History} {cells hand : List Word} → Leads size history (idle cells) → Writable hand cells a → Writable-since size a ((opening hand, done) ∷ history)
-  earlier : {event : Call × Answer} {history : History} → Not-placed a event → Writable-since size a history → Writable-since size a (event ∷ history)
+  opened :
+      {history : History} {cells hand : List Word} → Leads size history (idle cells) → Writable hand cells a →
+      Writable-since size a ((opening hand, done) ∷ history)
+  earlier :
+      {event : Call × Answer} {history : History} → Not-placed a event → Writable-since size a history →
+      Writable-since size a (event ∷ history)
 
 -- A cell with another word than its last accepted placing gave, or than 0 without one, was writable in the survey of a visit opened since.
 abbrev pub Only-writable-change : ℕ → History → State → Type 0
