@@ -1,0 +1,21 @@
+use native.Mathlib.Omega.{arith}
+use Rattle.std.proofs.shelf.Signed.{ints, toZ-ofZ}
+use Rattle.std.proofs.shelf.Ways.{tells}
+use Rattle.model.proofs.Checks.{rules}
+use Rattle.effects.proofs.arithmetic.lt.Needs as need
+
+pub returns-then-x-y : need.returns-then-x-y
+unfolding rules
+returns-then-x-y c = λ r. grind (arith, ints, tells, toZ-ofZ)
+
+pub returns-else-x-y : need.returns-else-x-y
+unfolding rules
+returns-else-x-y c = λ r. grind (arith, ints, tells, toZ-ofZ)
+
+pub returns-in-rest : need.returns-in-rest
+unfolding rules
+returns-in-rest c = λ r. grind (arith, ints, tells, toZ-ofZ)
+
+pub returns-in-rest·2 : need.returns-in-rest·2
+unfolding rules
+returns-in-rest·2 c = λ r. grind (arith, ints, tells, toZ-ofZ)

@@ -1,0 +1,4 @@
+pub mod Meant
+pub mod Shifts
+pub mod Parts
+pub mod Rights
