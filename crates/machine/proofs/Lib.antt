@@ -1,1 +1,4 @@
 pub mod Words
+pub mod Landing
+pub mod Performing
+pub mod Ending

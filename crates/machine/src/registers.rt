@@ -1,6 +1,5 @@
 ghost use mathlib.Core.Path.{_≡_};
-ghost use Prim.Native.Nat.{_<_};
-ghost use lib.ListN.{length, set, replicate};
+ghost use lib.ListN.{set, replicate};
 ghost use Rattle.words.specs.Word.{at, zero-word};
 ghost use Rattle.words.specs.Meaning.{meaning};
 ghost use Rattle.groups.specs.Hands.{hand-words};
@@ -54,10 +53,17 @@ impl Registers {
 
     // The word of register 0.
     pub(crate) fn pc(&self) -> Word
-        ensures value { λ r. ⌜ meaning r ≡ at (file (now (self .entry))) 0 ⌝ }
-        ensures there { λ _. ⌜ 0 < length (file (now (self .entry))) ⌝ }
+        ensures { λ r. ⌜ meaning r ≡ at (file (now (self .entry))) 0 ⌝ }
     {
         self.words[0]
+    }
+
+    // The word of register 0 once a register has got a word.
+    pub(crate) fn pc_after(&self, number: u32, word: Word) -> Word
+        ensures { λ r. ⌜ meaning r ≡ at (set (file (now (self .entry))) number (meaning word)) 0 ⌝ }
+    {
+        let pc = self.words[0];
+        if number == 0 { word } else { pc }
     }
 
     pub(crate) fn get(&self, number: u32) -> Word
