@@ -1,6 +1,6 @@
 -- From what a memory answers to what the rules say of a call.
 use mathlib.Core.Path.{_≡_, refl, sym, ap, subst, _∙_}
-use mathlib.Core.Logic.{_⊎_, ⊎-elim}
+use mathlib.Core.Logic.{_≢_, _⊎_, ⊎-elim}
 use mathlib.Core.List.{List}
 use Prim.Native.Nat.{ℕ, _≤_, _<_}
 use native.Mathlib.Omega.{arith}
@@ -17,7 +17,12 @@ use Rattle.words.specs.Refusals.{refusal-number}
 use Rattle.words.specs.Meaning.{meaning}
 use Rattle.memory.specs.Row as row
 use Rattle.memory.specs.Row.{load-answer, loaded, store-answer, stored-answer}
-use Rattle.model.specs.Bench.{Answer, refused, word, idle, Does, placing, reading, places, places-no-cell, reads-cell, reads-no-cell, survey, surveys, surveys-short, chart-left}
+use Rattle.model.specs.Bench.{Answer, refused, word, idle, Does, placing, reading, places, places-no-cell, reads-cell, reads-no-cell, survey, surveys, surveys-short, chart-left, visiting, register-reading, reads-register, reads-no-register}
+use Rattle.machine.specs.Files.{register-read}
+use Rattle.model.specs.declared.status.Status.{Status}
+use Rattle.model.specs.declared.status.Status.the-variants.{Running, Halted, Failed}
+use Rattle.model.specs.Machine.{Machine}
+use Rattle.model.specs.Run.{Runs, already-halted, already-failed}
 use Rattle.survey.specs.Surveyed.{Surveyed}
 use Rattle.bench.specs.Answers.{done-answer, word-answer, survey-answer}
 
@@ -61,3 +66,24 @@ pub survey-leaves : (hand cells : List Word) (chart chart′ : List ℕ) (r : Re
     chart′ ≡ chart-left chart (survey-answer r chart′)
 survey-leaves hand cells chart chart′ (Ok counts) s = refl
 survey-leaves hand cells chart chart′ (Err e) s = s .2
+
+register-at : (words : List Word) (i : ℕ) (w : Word) → row.given w ≡ register-read words i → (i < 16) × (w ≡ at words i)
+register-at words i w e = grind (arith, tells)
+
+no-register : (words : List Word) (i n : ℕ) → row.refused n ≡ register-read words i → (16 ≤ i) × (n ≡ 2)
+no-register words i n e = grind (arith, tells)
+
+pub register-does : (m : Machine) (status : Status) (i : ℕ) (r : Result Held Refusal) → load-answer r ≡ register-read (m .registers) i →
+    Does (visiting m status) (register-reading i) (word-answer r) (visiting m status)
+register-does m status i (Ok w) e =
+    let there = register-at (m .registers) i (meaning w) e in
+    subst (λ (v : Word). Does (visiting m status) (register-reading i) (word v) (visiting m status)) (sym (there .1)) (reads-register (there .0))
+register-does m status i (Err x) e =
+    let no = no-register (m .registers) i (refusal-number x) e in
+    subst (λ (n : ℕ). Does (visiting m status) (register-reading i) (refused n) (visiting m status)) (sym (no .1)) (reads-no-register (no .0))
+
+-- A visit that has stopped makes no step.
+pub stopped : (budget : ℕ) (m : Machine) (status : Status) → status ≢ Running → Runs budget m status 0 m status
+stopped budget m Running going = absurd (going refl)
+stopped budget m Halted going = already-halted
+stopped budget m (Failed cause place) going = already-failed

@@ -2,3 +2,4 @@
 mod states;
 
 pub use states::Idle;
+pub use states::Visit;

@@ -3,13 +3,16 @@ ghost use lib.ListN.{length, replicate};
 ghost use Rattle.words.specs.Word.{zero-word};
 ghost use Rattle.words.specs.Meaning.{meaning};
 ghost use Rattle.groups.specs.Hands.{hand-words};
-ghost use Rattle.model.specs.Bench.{placing, reading, survey as surveying, chart-left};
+ghost use Rattle.model.specs.Bench.{placing, reading, survey as surveying, chart-left, opening, done};
 ghost use Rattle.model.specs.Findings.{Starts, Lawful};
-ghost use Rattle.bench.specs.States.{idle-of};
+ghost use Rattle.bench.specs.States.{idle-of, visit-of};
 ghost use Rattle.bench.specs.Answers.{done-answer, word-answer, survey-answer};
 use super::Idle;
+use super::Visit;
 use groups::Hand;
+use machine::Registers;
 use memory::Memory;
+use model::Status;
 use survey::survey;
 use words::Refusal;
 use words::Word;
@@ -53,6 +56,19 @@ impl<M: Memory> Idle<M> {
         ensures left { λ r. ⌜ now (chart .exit) ≡ chart-left (now (chart .entry)) (survey-answer r (now (chart .exit))) ⌝ }
     {
         survey(&self.memory, hand, chart)
+    }
+
+    // Opens a visit: the hand's words go into the registers.
+    pub fn open(self, hand: &Hand) -> Visit<M>
+        ensures lawful { λ r. ⌜ Lawful (idle-of row self) (opening (hand-words (now (hand .entry)))) done (visit-of row r) ⌝ }
+        ensures memory { λ r. ⌜ r .memory ≡ self .memory ⌝ }
+    {
+        let Idle { memory } = self;
+        Visit {
+            memory,
+            registers: Registers::from_hand(hand),
+            status: Status::Running,
+        }
     }
 
     // The memory again, as it stands.
