@@ -38,7 +38,7 @@ pub(crate) fn word_at(bytes: &[u8], address: usize) -> Word
     }
 }
 
-impl<'a> Report<'a> {
+impl<'a, 'b> Report<'a, 'b> {
     // How many cells there are.
     pub fn size(&self) -> usize
         ensures { λ r. ⌜ r ≡ length (now (now (self .entry) .before)) / 8 ⌝ }

@@ -6,17 +6,17 @@ use std::fmt;
 
 // What a trial came to: the survey's counts, how the visit stood at its end, the steps made, and the groups of the cells before and after the run.
 #[derive(Drop)]
-pub struct Report<'a> {
+pub struct Report<'a, 'b> {
     pub marked: usize,
     pub writable: usize,
     pub status: Status,
     pub steps: u32,
     pub before: &'a [u8],
-    pub after: &'a [u8],
+    pub after: &'b [u8],
 }
 
 // The lines of the survey, the outcome and the fault, if there is one.
-pub impl<'a> fmt::Display for Report<'a> as ReportDisplay {
+pub impl<'a, 'b> fmt::Display for Report<'a, 'b> as ReportDisplay {
     ghost shown = { λ r. Some (report-text (r .marked) (r .writable) (r .status) (r .steps)) };
 
     fn fmt<W: fmt::Write>(&self, f: &mut fmt::Formatter<W>) -> fmt::Result {

@@ -80,7 +80,7 @@ fn try_on<M: Memory>(memory: M, groups: &[u8], hand: &Hand, budget: u32) -> Endi
 }
 
 // A trial of a sheet, on a packed memory in the area.
-fn try_sheet<'a>(sheet: Sheet<'a>, area: &'a mut [u8]) -> Report<'a>
+fn try_sheet<'a, 'b>(sheet: Sheet<'a>, area: &'b mut [u8]) -> Report<'a, 'b>
     requires { ⌜ length (now (sheet .cells)) ≤ length (now area) ⌝ ∗ ⌜ length (now (sheet .cells)) ≤ 16384 ⌝ }
     ensures tried { λ r. ⌜ Ends (packed-row (now (r .before))) (hand-words (sheet .entry .hand)) (sheet .entry .budget) (r .marked) (r .writable) (r .status) (r .steps) (packed-row (now (r .after))) ⌝ }
     ensures before { λ r. ⌜ now (r .before) ≡ now (sheet .entry .cells) ⌝ }
@@ -98,7 +98,7 @@ fn try_sheet<'a>(sheet: Sheet<'a>, area: &'a mut [u8]) -> Report<'a>
         status,
         steps,
     } = try_on(memory, cells, &hand, budget);
-    let after: &'a [u8] = memory.back();
+    let after: &'b [u8] = memory.back();
     Report {
         marked,
         writable,
@@ -110,7 +110,7 @@ fn try_sheet<'a>(sheet: Sheet<'a>, area: &'a mut [u8]) -> Report<'a>
 }
 
 // Tries the sheet in an input, on a packed memory in the area, or says why the input is none.
-pub fn trial<'a>(input: &'a [u8], area: &'a mut [u8; AREA]) -> Result<Report<'a>, Malformed>
+pub fn trial<'a, 'b>(input: &'a [u8], area: &'b mut [u8; AREA]) -> Result<Report<'a, 'b>, Malformed>
     ensures { λ r. ⌜ Tries (now (input .entry)) r ⌝ }
 {
     let sheet = read_sheet(input)?;
