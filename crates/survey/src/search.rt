@@ -9,6 +9,7 @@ use super::skips::Skips;
 use words::Word;
 
 // What a survey works with besides the marks: the work list, the skips over cells that are marked at all, and the skips over those that are marked 2.
+// Three areas of fixed size, 384 KiB of stack: nothing is allocated, so that no survey fails for want of memory.
 #[derive(Drop)]
 pub struct Search {
     pub pending: Pending,
@@ -34,22 +35,11 @@ impl Search {
         ensures ready { λ _. ⌜ Ready (now (marks .exit)) (now (self .exit)) ⌝ }
     {
         if let Word::Cap(held) = word {
+            let bounds = held.bounds();
             match level(held.permission()) {
                 0 => {}
-                1 => mark_range(
-                    held.bounds(),
-                    1,
-                    marks,
-                    &mut self.pending,
-                    &mut self.reached,
-                ),
-                _ => mark_range(
-                    held.bounds(),
-                    2,
-                    marks,
-                    &mut self.pending,
-                    &mut self.writable,
-                ),
+                1 => mark_range(bounds, 1, marks, &mut self.pending, &mut self.reached),
+                _ => mark_range(bounds, 2, marks, &mut self.pending, &mut self.writable),
             }
         }
     }

@@ -1,0 +1,5 @@
+// Pictures of memories, and what a survey marks in them.
+#[cfg(test)]
+mod edges;
+#[cfg(test)]
+mod pictures;
