@@ -1,13 +1,12 @@
 -- A call has one answer and leaves one state, a refusal changes nothing, and a call has an answer exactly where it is allowed.
 use mathlib.Core.Path.{_≡_, refl}
-use mathlib.Core.List.{List}
 use Prim.Native.Nat.{ℕ, _≤_, _<_}
 use native.Mathlib.Decide.{decLt}
 use native.Mathlib.Omega.{arith}
 use lib.ListN.{length}
-use Rattle.words.specs.Word.{Word}
 use Rattle.model.specs.Bench.{Call, placing, reading, survey, opening, run, register-reading, closing, Answer, refused, surveyed, outcome, State, idle, visiting, Does, places, places-no-cell, reads-cell, reads-no-cell, surveys, surveys-short, opens, runs, reads-register, reads-no-register, closes}
-use Rattle.model.specs.Calls.{Calls-determined, Charts-determined, Refusals-change-nothing, Allows, Answered, Surveyed, Allowed-answered}
+use Rattle.model.specs.Calls.{Calls-determined, Charts-determined, Refusals-change-nothing, Allows, Answered, Allowed-answered}
+use Rattle.model.proofs.Marking.{charts-exist}
 use Rattle.model.proofs.Charts.{same-chart, same-count, same-count-2}
 use Rattle.model.proofs.Course.{runs-one, runs-end-once}
 
@@ -65,34 +64,33 @@ refusals-change-nothing before call n after d = unchanged d
 
 -- ── An answer, where the call is allowed ──
 
-module _ (chart-of : (hand cells : List Word) (chart : List ℕ) → Surveyed hand cells chart) where
-  allowed-answered : (before : State) (call : Call) → Allows before call → Answered before call
-  allowed-answered (idle cells) (placing a w) t = elim (decLt a (length cells)) [
-    | yes h ↦ record { answer = _; after = _; does = places h }
-    | no h ↦ record { answer = _; after = _; does = places-no-cell (omega arith) }
-  ]
-  allowed-answered (idle cells) (reading a) t = elim (decLt a (length cells)) [
-    | yes h ↦ record { answer = _; after = _; does = reads-cell h }
-    | no h ↦ record { answer = _; after = _; does = reads-no-cell (omega arith) }
-  ]
-  allowed-answered (idle cells) (survey hand chart) t = elim (decLt (length chart) (length cells)) [
-    | yes h ↦ record { answer = _; after = _; does = surveys-short h }
-    | no h ↦ record { answer = _; after = _; does = surveys (omega arith) (chart-of hand cells chart .charted) }
-  ]
-  allowed-answered (idle cells) (opening hand) t = record { answer = _; after = _; does = opens }
-  allowed-answered (idle cells) (run budget) t = absurd t
-  allowed-answered (idle cells) (register-reading i) t = absurd t
-  allowed-answered (idle cells) closing t = absurd t
-  allowed-answered (visiting m status) (placing a w) t = absurd t
-  allowed-answered (visiting m status) (reading a) t = absurd t
-  allowed-answered (visiting m status) (survey hand chart) t = absurd t
-  allowed-answered (visiting m status) (opening hand) t = absurd t
-  allowed-answered (visiting m status) (run budget) t = record { answer = _; after = _; does = runs (runs-end-once budget m status .1) }
-  allowed-answered (visiting m status) (register-reading i) t = elim (decLt i 16) [
-    | yes h ↦ record { answer = _; after = _; does = reads-register h }
-    | no h ↦ record { answer = _; after = _; does = reads-no-register (omega arith) }
-  ]
-  allowed-answered (visiting m status) closing t = record { answer = _; after = _; does = closes }
+allowed-answered : (before : State) (call : Call) → Allows before call → Answered before call
+allowed-answered (idle cells) (placing a w) t = elim (decLt a (length cells)) [
+  | yes h ↦ record { answer = _; after = _; does = places h }
+  | no h ↦ record { answer = _; after = _; does = places-no-cell (omega arith) }
+]
+allowed-answered (idle cells) (reading a) t = elim (decLt a (length cells)) [
+  | yes h ↦ record { answer = _; after = _; does = reads-cell h }
+  | no h ↦ record { answer = _; after = _; does = reads-no-cell (omega arith) }
+]
+allowed-answered (idle cells) (survey hand chart) t = elim (decLt (length chart) (length cells)) [
+  | yes h ↦ record { answer = _; after = _; does = surveys-short h }
+  | no h ↦ record { answer = _; after = _; does = surveys (omega arith) (charts-exist hand cells chart (omega arith) .charted) }
+]
+allowed-answered (idle cells) (opening hand) t = record { answer = _; after = _; does = opens }
+allowed-answered (idle cells) (run budget) t = absurd t
+allowed-answered (idle cells) (register-reading i) t = absurd t
+allowed-answered (idle cells) closing t = absurd t
+allowed-answered (visiting m status) (placing a w) t = absurd t
+allowed-answered (visiting m status) (reading a) t = absurd t
+allowed-answered (visiting m status) (survey hand chart) t = absurd t
+allowed-answered (visiting m status) (opening hand) t = absurd t
+allowed-answered (visiting m status) (run budget) t = record { answer = _; after = _; does = runs (runs-end-once budget m status .1) }
+allowed-answered (visiting m status) (register-reading i) t = elim (decLt i 16) [
+  | yes h ↦ record { answer = _; after = _; does = reads-register h }
+  | no h ↦ record { answer = _; after = _; does = reads-no-register (omega arith) }
+]
+allowed-answered (visiting m status) closing t = record { answer = _; after = _; does = closes }
 
 does-allowed : {before after : State} {call : Call} {answer : Answer} → Does before call answer after → Allows before call
 does-allowed (places h) = tt
@@ -108,4 +106,4 @@ does-allowed (reads-no-register h) = tt
 does-allowed closes = tt
 
 pub allowed-exactly : Allowed-answered
-allowed-exactly chart-of before call = (allowed-answered chart-of before call, λ a. does-allowed (a .does))
+allowed-exactly before call = (allowed-answered before call, λ a. does-allowed (a .does))

@@ -16,4 +16,5 @@ pub mod Checks
 pub mod Authority
 pub mod Arithmetic
 pub mod Course
+pub mod Marking
 pub mod Calls

@@ -1,7 +1,8 @@
--- What holds of every call on a bench: it has one answer and leaves one state, and a refusal changes nothing.
+-- What holds of every call on a bench: where it is allowed it has an answer, and only one, and a refusal changes nothing.
 use mathlib.Core.Path.{_≡_}
 use mathlib.Core.List.{List}
-use Prim.Native.Nat.{ℕ}
+use Prim.Native.Nat.{ℕ, _≤_}
+use lib.ListN.{length}
 use Rattle.words.specs.Word.{Word}
 use Rattle.model.specs.Survey.{Charted}
 use Rattle.model.specs.Bench.{Call, placing, reading, survey, opening, run, register-reading, closing, Answer, refused, State, idle, visiting, Does}
@@ -11,6 +12,17 @@ abbrev pub Calls-determined : Type 0
 Calls-determined =
     (before : State) (call : Call) (x y : Answer) (s t : State) →
     Does before call x s → Does before call y t → (x ≡ y) × (s ≡ t)
+
+-- What a survey of the hand comes to.
+pub record Surveyed (hand cells : List Word) (chart : List ℕ) : Type 0 where
+  pub after : List ℕ
+  pub marked : ℕ
+  pub marked-2 : ℕ
+  pub charted : Charted hand cells chart after marked marked-2
+
+-- Every survey over a chart that is long enough comes to something: it can be told of each cell whether a chain of capabilities leads to it.
+abbrev pub Charts-exist : Type 0
+Charts-exist = (hand cells : List Word) (chart : List ℕ) → length cells ≤ length chart → Surveyed hand cells chart
 
 -- A survey leaves one chart, with one pair of counts.
 abbrev pub Charts-determined : Type 0
@@ -45,15 +57,6 @@ pub record Answered (before : State) (call : Call) : Type 0 where
   pub after : State
   pub does : Does before call answer after
 
--- A survey of the hand comes to some chart.
-pub record Surveyed (hand cells : List Word) (chart : List ℕ) : Type 0 where
-  pub after : List ℕ
-  pub marked : ℕ
-  pub marked-2 : ℕ
-  pub charted : Charted hand cells chart after marked marked-2
-
--- A call has an answer exactly where the state allows it, if surveys come to some chart; that they do is shown by the code that finds it.
+-- A call has an answer exactly where the state allows it.
 abbrev pub Allowed-answered : Type 0
-Allowed-answered =
-    ((hand cells : List Word) (chart : List ℕ) → Surveyed hand cells chart) →
-    (before : State) (call : Call) → (Allows before call → Answered before call) × (Answered before call → Allows before call)
+Allowed-answered = (before : State) (call : Call) → (Allows before call → Answered before call) × (Answered before call → Allows before call)

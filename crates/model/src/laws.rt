@@ -2,7 +2,7 @@
 ghost use Rattle.model.specs.Findings.{Findings-stand};
 ghost use Rattle.model.specs.Authority.{Steps-within-authority};
 ghost use Rattle.model.specs.Course.{Runs-end-once, Runs-compose, Runs-take-a-course, Placeless-not-executable, Missing-cells-carry-refusal};
-ghost use Rattle.model.specs.Calls.{Calls-determined, Charts-determined, Refusals-change-nothing, Allowed-answered};
+ghost use Rattle.model.specs.Calls.{Calls-determined, Charts-exist, Charts-determined, Refusals-change-nothing, Allowed-answered};
 ghost use Rattle.model.specs.Arithmetic.{Words-of-32-bits, Quotient-nearest, Pairs-by-number};
 
 // The three isolation findings stand after every list of calls on a bench.
@@ -43,6 +43,11 @@ pub fn missing_cells_carry_refusal()
 // The same call in the same state gives the same answer and leaves the same state.
 pub fn calls_determined()
     ensures { λ _. ⌜ Calls-determined ⌝ }
+{}
+
+// A survey over a chart that is long enough comes to a chart.
+pub fn charts_exist()
+    ensures { λ _. ⌜ Charts-exist ⌝ }
 {}
 
 // A survey leaves one chart, with one pair of counts.
