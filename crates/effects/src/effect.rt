@@ -16,8 +16,8 @@ pub enum Effect {
     Write { address: u32, word: Word },
     // nothing but the advance
     Pass,
-    // the word goes into the pc
-    Jump(Word),
+    // the word of the register goes into the pc, an E entered
+    Jump { d: u32 },
     Halt,
     Fault(Fault),
 }

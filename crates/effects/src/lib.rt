@@ -17,7 +17,7 @@ pub use effect::Effect;
 pub use inspection::Part;
 pub use inspection::get;
 pub use inspection::isptr;
-pub use jumps::jmp;
+pub use jumps::entered;
 pub use jumps::jnz;
 pub use narrowing::restrict;
 pub use narrowing::subseg;

@@ -3,8 +3,8 @@ ghost use mathlib.Core.List.{List};
 ghost use Rattle.words.specs.Word.{Word as ModelWord, at};
 ghost use Rattle.words.specs.Meaning.{meaning};
 ghost use Rattle.groups.specs.Answers.{word-given};
-ghost use Rattle.model.specs.Machine.{put as Put, read as Read, write as Write, pass as Pass};
-ghost use Rattle.model.specs.Effects.{effect as effects, shifting};
+ghost use Rattle.model.specs.Machine.{put as Put, read as Read, write as Write, pass as Pass, jump as Jump};
+ghost use Rattle.model.specs.Effects.{effect as effects, shifting, entered as entering};
 ghost use Rattle.model.specs.Step.{instruction-in, obeyed, request as requested, perform as performed, step as stepped};
 ghost use Rattle.effects.specs.Meant.{effect-on};
 ghost use Rattle.machine.specs.Files.{file};
@@ -13,9 +13,9 @@ use super::flow::Flow;
 use super::registers::Registers;
 use effects::Effect;
 use effects::Part;
+use effects::entered;
 use effects::get;
 use effects::isptr;
-use effects::jmp;
 use effects::jnz;
 use effects::load;
 use effects::lt;
@@ -78,8 +78,8 @@ fn effect(registers: &Registers, instruction: Instruction) -> Effect
     match instruction {
         Instruction::Fail => Effect::Fault(Fault::OrderedFail),
         Instruction::Halt => Effect::Halt,
-        Instruction::Jmp { d } => jmp(registers.get(d)),
-        Instruction::Jnz { d, a } => jnz(registers.get(d), registers.value(a)),
+        Instruction::Jmp { d } => Effect::Jump { d },
+        Instruction::Jnz { d, a } => jnz(d, registers.value(a)),
         Instruction::Move { d, a } => Effect::Put {
             d,
             word: registers.value(a),
@@ -122,10 +122,7 @@ fn perform<M: Memory>(registers: &mut Registers, memory: &mut M, effect: Effect)
         Effect::Read { d, address } => read(registers, memory, d, address),
         Effect::Write { address, word } => write(registers, memory, address, word),
         Effect::Pass => pass(registers),
-        Effect::Jump(word) => {
-            registers.put(0, word);
-            Flow::Moved
-        }
+        Effect::Jump { d } => jump(registers, d),
         Effect::Halt => Flow::Halted,
         Effect::Fault(fault) => Flow::Faulted(fault),
     }
@@ -186,6 +183,15 @@ fn pass(registers: &mut Registers) -> Flow
             Flow::Moved
         }
     }
+}
+
+// Puts the word of the register into the pc, as a jump does.
+fn jump(registers: &mut Registers, d: u32) -> Flow
+    ensures { λ r. ⌜ ((cells : List ModelWord) → Lands (machine (now (registers .entry)) cells) (performed (file (now (registers .entry))) cells (Jump (entering (at (file (now (registers .entry))) d)))) r (machine (now (registers .exit)) cells)) ⌝ }
+{
+    let target = registers.get(d);
+    registers.put(0, entered(target));
+    Flow::Moved
 }
 
 // Puts the word of a cell into the register and advances.

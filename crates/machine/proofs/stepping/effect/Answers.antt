@@ -12,11 +12,11 @@ returns-in-Halt c = simp (c .in-Halt .is)
 
 pub returns-in-Jmp : need.returns-in-Jmp
 unfolding effect
-returns-in-Jmp c = simp (c .jmp .ensures (file (c .args .registers .now)), c .get .ensures, c .in-Jmp .is)
+returns-in-Jmp c = simp (c .in-Jmp .is)
 
 pub returns-in-Jnz : need.returns-in-Jnz
 unfolding effect
-returns-in-Jnz c = simp (c .jnz .ensures (file (c .args .registers .now)), c .get-in-Jnz .ensures, c .value .ensures, c .in-Jnz .is)
+returns-in-Jnz c = simp (c .jnz .ensures (file (c .args .registers .now)), c .value .ensures, c .in-Jnz .is)
 
 pub returns-in-Move : need.returns-in-Move
 unfolding effect
@@ -24,7 +24,7 @@ returns-in-Move c = simp (c .value-in-Move .ensures, c .in-Move .is)
 
 pub returns-in-Load : need.returns-in-Load
 unfolding effect
-returns-in-Load c = simp (c .load .ensures (file (c .args .registers .now)), c .get-in-Load .ensures, c .in-Load .is)
+returns-in-Load c = simp (c .load .ensures (file (c .args .registers .now)), c .get .ensures, c .in-Load .is)
 
 pub returns-in-Store : need.returns-in-Store
 unfolding effect

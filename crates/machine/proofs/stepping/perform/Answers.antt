@@ -1,12 +1,11 @@
 use mathlib.Core.Path.{refl, sym, ap, _∙_}
-use mathlib.Core.List.{List}
 use lib.IntN.{ℤ}
 use mir.Syntax.{w32}
 use mir.Val.{SFits}
 use borrow.Author.Needs.{needs}
 use Rattle.std.proofs.shelf.Signed.{toZ-ofZ}
-use Rattle.words.specs.Word.{Word, integer}
-use Rattle.model.specs.Machine.{put, moved}
+use Rattle.words.specs.Word.{integer}
+use Rattle.model.specs.Machine.{put}
 use Rattle.model.specs.Step.{perform}
 use Rattle.effects.specs.declared.effect.Effect.{Effect}
 use Rattle.effects.specs.Meant.{effect-on}
@@ -26,19 +25,6 @@ returns-in-PutInteger g c =
           (ap (λ (e : Effect). perform r cells (effect-on r e)) (c .in-PutInteger .is)
           ∙ ap (λ (z : ℤ). perform r cells (put (c .in-PutInteger .d) (integer z))) (sym (toZ-ofZ w32 (c .in-PutInteger .value) fits)))
           (c .put-in-PutInteger .ensures cells);
-      rest = refl;
-      lent = refl;
-    }
-
-pub returns-in-Jump : need.returns-in-Jump
-unfolding perform
-returns-in-Jump g c =
-    let r = file (c .args .registers .now) in
-    let cells = g .M·Memory .row (c .args .memory .now) in
-    record {
-      flow =
-          ap (λ (e : Effect). perform r cells (effect-on r e)) (c .in-Jump .is)
-          ∙ ap (λ (x : List Word). moved (record { registers = x; cells = cells })) (sym (c .put-in-Jump .ensures));
       rest = refl;
       lent = refl;
     }
