@@ -12,7 +12,7 @@ use chance::Chance;
 /// The most steps that a drawn budget lets a sheet run that does not stop.
 const PATIENCE: u32 = 4_000;
 
-/// The input with this index of the stream that the seed gives.
+/// The input with this index of the stream drawn from a seed.
 pub fn input(seed: u64, index: u64) -> Vec<u8> {
     let chance = &mut Chance::of_sheet(seed, index);
     let program = chance.weigh(&[

@@ -69,7 +69,7 @@ mod tests {
 
     #[test]
     fn known_numbers() {
-        // The published first outputs of SplitMix64 for the seed 1234567.
+        // The published first outputs of SplitMix64 started at 1234567.
         let mut chance = Chance::new(1_234_567);
         assert_eq!(chance.next(), 6_457_827_717_110_365_317);
         assert_eq!(chance.next(), 3_203_168_211_198_807_973);
