@@ -1,0 +1,3 @@
+// Tables of examples for the machine.
+#[cfg(test)]
+mod table;
