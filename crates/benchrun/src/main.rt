@@ -1,4 +1,6 @@
 // Reads a sheet from standard input, tries it on a bench and prints the report, or says why the input is no sheet.
+#![tactic(auto)]
+
 use printing::print_trial;
 use sheet::LONGEST;
 use std::io;

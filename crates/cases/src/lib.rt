@@ -1,4 +1,6 @@
 // The worked cases of the rules, shown from the definitions that the contracts cite.
+#![tactic(auto)]
+
 ghost use Rattle.cases.specs.Cases.{CasesHold};
 
 // Every case of the list holds.

@@ -1,5 +1,7 @@
 // Reads many sheets from standard input, each after its length in four bytes, most significant first, and prints the number and the report of each. What it
 // prints is compared with what the second implementation prints of the same sheets.
+#![tactic(auto)]
+
 use printing::print_trial;
 use std::io;
 use std::io::Read;

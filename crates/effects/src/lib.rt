@@ -1,4 +1,6 @@
 // What each instruction does with the words that it names: its checks in their order, and the effect that is left to perform.
+#![tactic(auto)]
+
 mod arithmetic;
 mod cells;
 mod effect;

@@ -1,5 +1,7 @@
 // Assembles and tries many texts. Standard input has them one after the other, each behind a line that begins with `=`; that line is printed, and then the report,
 // or the mistake in the text.
+#![tactic(auto)]
+
 use assembly::{MistakeDisplay, assemble};
 use printing::print_trial;
 use scanning::first_line;

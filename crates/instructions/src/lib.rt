@@ -1,4 +1,6 @@
 // The instructions of the machine, and the integers that they pack into.
+#![tactic(auto)]
+
 mod fields;
 mod instruction;
 mod operand;

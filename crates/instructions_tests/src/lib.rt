@@ -1,4 +1,6 @@
 // Tests of packing and unpacking, at the edges of the rules. They stand in a crate of their own, since a crate with tests is proved twice.
+#![tactic(auto)]
+
 #[cfg(test)]
 mod tests {
     use instructions::{Instruction, Operand, pack, unpack};

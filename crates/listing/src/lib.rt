@@ -1,1 +1,2 @@
 // Listings of sheets.
+#![tactic(auto)]

@@ -1,4 +1,6 @@
 // The machine: registers, one step on any memory, and runs.
+#![tactic(auto)]
+
 mod flow;
 mod registers;
 mod running;

@@ -1,3 +1,5 @@
 // Tables of examples for the machine.
+#![tactic(auto)]
+
 #[cfg(test)]
 mod table;

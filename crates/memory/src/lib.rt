@@ -1,4 +1,6 @@
 // Memories: what one is, said once as a trait, and three kinds of it.
+#![tactic(auto)]
+
 mod joined;
 mod laws;
 mod memory;

@@ -1,4 +1,6 @@
 // Tables of examples for the three kinds of memory.
+#![tactic(auto)]
+
 #[cfg(test)]
 mod packs;
 #[cfg(test)]

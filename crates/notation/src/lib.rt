@@ -1,4 +1,6 @@
 // The text form of sheets: the names in it, and what is expected at each place of a text.
+#![tactic(auto)]
+
 mod bytes;
 mod expected;
 mod laws;

@@ -1,4 +1,6 @@
 // Prints what a trial of an input came to, line by line.
+#![tactic(auto)]
+
 use std::io;
 use trial::{AREA, trial};
 

@@ -1,4 +1,6 @@
 // Reads the lines of a text and the words of a line, numbers, and labels.
+#![tactic(auto)]
+
 mod labels;
 mod lines;
 mod names;

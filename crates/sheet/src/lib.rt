@@ -1,4 +1,6 @@
 // Sheets: a budget, a hand and the words of the cells, as the program reads them.
+#![tactic(auto)]
+
 mod malformed;
 mod reading;
 

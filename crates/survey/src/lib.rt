@@ -1,4 +1,6 @@
 // The survey of a hand: which cells of a memory its holder can reach, and which of them it can write.
+#![tactic(auto)]
+
 mod marking;
 mod pending;
 mod search;

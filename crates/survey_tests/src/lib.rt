@@ -1,4 +1,6 @@
 // Pictures of memories, and what a survey marks in them.
+#![tactic(auto)]
+
 #[cfg(test)]
 mod edges;
 #[cfg(test)]

@@ -1,4 +1,6 @@
 // A trial of a sheet on a bench, and its report.
+#![tactic(auto)]
+
 mod changes;
 mod report;
 mod trying;

@@ -1,4 +1,6 @@
 // The words of a machine with capabilities: permissions, localities, bounds and their orders, capabilities, and refusals.
+#![tactic(auto)]
+
 mod bounds;
 mod capability;
 mod locality;

@@ -1,4 +1,6 @@
 // Tables of examples for words, groups, hands and sheets.
+#![tactic(auto)]
+
 #[cfg(test)]
 mod making;
 #[cfg(test)]
