@@ -12,10 +12,10 @@ pub returns-else-x-y : goal.returns-else-x-y
 unfolding rules
 returns-else-x-y c = λ r. grind (arith, ints, nat_tests, to_z-of_z)
 
-pub returns-in-default : goal.returns-in-default
+pub returns-in_default : goal.returns-in_default
 unfolding rules
-returns-in-default c = λ r. grind (arith, ints, nat_tests, to_z-of_z)
+returns-in_default c = λ r. grind (arith, ints, nat_tests, to_z-of_z)
 
-pub returns-in-default·2 : goal.returns-in-default·2
+pub returns-in_default-2 : goal.returns-in_default-2
 unfolding rules
-returns-in-default·2 c = λ r. grind (arith, ints, nat_tests, to_z-of_z)
+returns-in_default-2 c = λ r. grind (arith, ints, nat_tests, to_z-of_z)

@@ -4,9 +4,9 @@ use Rattle.std.proofs.lemmas.Bool.Decides.{nat_tests}
 use Rattle.model.proofs.Checks.{rules}
 use Rattle.effects.proofs.cells.load.Goals as goal
 
-pub returns-in-default : goal.returns-in-default
+pub returns-in_default : goal.returns-in_default
 unfolding rules
-returns-in-default c = λ r. grind (arith, ints, nat_tests, to_z-of_z)
+returns-in_default c = λ r. grind (arith, ints, nat_tests, to_z-of_z)
 
 pub returns-then-not-reads : goal.returns-then-not-reads
 unfolding rules

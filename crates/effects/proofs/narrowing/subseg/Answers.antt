@@ -4,29 +4,29 @@ use Rattle.std.proofs.lemmas.Bool.Decides.{nat_tests}
 use Rattle.model.proofs.Checks.{rules}
 use Rattle.effects.proofs.narrowing.subseg.Goals as goal
 
-pub returns-in-default : goal.returns-in-default
+pub returns-in_default : goal.returns-in_default
 unfolding rules
-returns-in-default c = λ r. grind (arith, ints, nat_tests, to_z-of_z)
+returns-in_default c = λ r. grind (arith, ints, nat_tests, to_z-of_z)
 
-pub returns-in-default-a : goal.returns-in-default-a
+pub returns-in_default-a : goal.returns-in_default-a
 unfolding rules
-returns-in-default-a c = λ r. grind (arith, ints, nat_tests, to_z-of_z)
+returns-in_default-a c = λ r. grind (arith, ints, nat_tests, to_z-of_z)
 
-pub returns-in-default-b : goal.returns-in-default-b
+pub returns-in_default-b : goal.returns-in_default-b
 unfolding rules
-returns-in-default-b c = λ r. grind (arith, ints, nat_tests, to_z-of_z)
+returns-in_default-b c = λ r. grind (arith, ints, nat_tests, to_z-of_z)
 
-pub returns-then-is-enter : goal.returns-then-is-enter
+pub returns-then-is_enter : goal.returns-then-is_enter
 unfolding rules
-returns-then-is-enter c = λ r. grind (arith, ints, nat_tests, to_z-of_z)
+returns-then-is_enter c = λ r. grind (arith, ints, nat_tests, to_z-of_z)
 
 pub returns-then-base-lt0 : goal.returns-then-base-lt0
 unfolding rules
 returns-then-base-lt0 c = λ r. grind (arith, ints, nat_tests, to_z-of_z)
 
-pub returns-in-default-with-bounds : goal.returns-in-default-with-bounds
+pub returns-in_default-with_bounds : goal.returns-in_default-with_bounds
 unfolding rules
-returns-in-default-with-bounds c = λ r. grind (arith, ints, nat_tests, to_z-of_z)
+returns-in_default-with_bounds c = λ r. grind (arith, ints, nat_tests, to_z-of_z)
 
 pub returns-then-not-below : goal.returns-then-not-below
 unfolding rules

@@ -8,5 +8,5 @@ pub returns : goal.returns
 returns c =
     record {
       bytes = search rules;
-      back = ap group_word c.to-be-bytes.ensures ∙ ap unpacked (number_group c.encode.result c.encode.type-inv) ∙ c.encode.ensures.back;
+      back = ap group_word c.to_be_bytes.ensures ∙ ap unpacked (number_group c.encode.result c.encode.type_inv) ∙ c.encode.ensures.back;
     }

@@ -27,6 +27,6 @@ returns-in-None c =
         refl,
         λ w exists same.
             let numbers = ap (λ bytes. number_at bytes 0) (same ∙ sym c.number.ensures.back) in
-            c.in-None.ensures.exactly w exists (sym (number_group (packed w) (fits w exists)) ∙ numbers ∙ number_group n c.number.type-inv),
+            c.in-None.ensures.exactly w exists (sym (number_group (packed w) (fits w exists)) ∙ numbers ∙ number_group n c.number.type_inv),
       );
     }

@@ -4,6 +4,6 @@ use Rattle.words.specs.Meaning.{cap_of}
 use Rattle.groups.proofs.RoundTrip.{there, nowhere}
 use Rattle.groups.proofs.number.decode.Goals as goal
 
-pub returns-in-ok-held : goal.returns-in-ok-held
-returns-in-ok-held c =
-    record { value = search rules; exactly = there c.args.number (capability (cap_of c.in-ok-held.held)) (search rules) (search rules) }
+pub returns-in_ok-held : goal.returns-in_ok-held
+returns-in_ok-held c =
+    record { value = search rules; exactly = there c.args.number (capability (cap_of c.in_ok-held.held)) (search rules) (search rules) }

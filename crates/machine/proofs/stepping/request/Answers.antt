@@ -4,9 +4,9 @@ use Rattle.std.proofs.lemmas.Bool.Decides.{nat_tests}
 use Rattle.model.proofs.Checks.{rules}
 use Rattle.machine.proofs.stepping.request.Goals as goal
 
-pub returns-in-default : goal.returns-in-default
+pub returns-in_default : goal.returns-in_default
 unfolding rules
-returns-in-default g c = grind (arith, ints, nat_tests, to_z-of_z)
+returns-in_default g c = grind (arith, ints, nat_tests, to_z-of_z)
 
 pub returns-then-not-executes : goal.returns-then-not-executes
 unfolding rules

@@ -24,22 +24,22 @@ shifted r cells r' d by s = ap (perform r cells) s.0 ∙ ap (λ (x : List Word).
 pub returns-in-Moved : goal.returns-in-Moved
 unfolding perform
 returns-in-Moved c cells =
-    shifted (file c.args.registers.now) cells (file c.shift.new.self) c.args.d (meaning c.args.by) c.in-default.ensures ∙ c.in-Moved.ensures cells
+    shifted (file c.args.registers.now) cells (file c.shift.new.self) c.args.d (meaning c.args.by) c.in_default.ensures ∙ c.in-Moved.ensures cells
 
-pub returns-in-default-pass : goal.returns-in-default-pass
+pub returns-in_default-pass : goal.returns-in_default-pass
 unfolding perform
-returns-in-default-pass c cells =
+returns-in_default-pass c cells =
     let r = file c.args.registers.now in
     let r' = file c.shift.new.self in
     let d = c.args.d in
     lands_undone c.pass.result (machine c.args.registers.now cells) (machine c.shift.new.self cells) (machine c.pass.new.registers cells) (machine c.put.new.self cells) _ _
-    c.in-default-pass.not-Moved
-    (shifted r cells r' d (meaning c.args.by) c.in-default.ensures)
+    c.in_default-pass.not-Moved
+    (shifted r cells r' d (meaning c.args.by) c.in_default.ensures)
     (c.pass.ensures cells)
     (λ same.
     let back =
     c.put.ensures
-    ∙ ap (λ (x : List Word). set x d (meaning c.get-old.result)) (ap (λ (m : Machine). m.registers) same ∙ c.in-default.ensures.1)
+    ∙ ap (λ (x : List Word). set x d (meaning c.get-old.result)) (ap (λ (m : Machine). m.registers) same ∙ c.in_default.ensures.1)
     ∙ set-set r d (at r' d) (meaning c.get-old.result)
     ∙ ap (set r d) c.get-old.ensures
     ∙ set-get_or r d zero_word in

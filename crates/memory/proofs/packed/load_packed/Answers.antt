@@ -5,13 +5,13 @@ use Rattle.memory.proofs.Answering.{load_given, load_refused}
 use Rattle.memory.proofs.Packs.{packed_at}
 use Rattle.memory.proofs.packed.load_packed.Goals as goal
 
-pub read-group-requires : goal.read-group-requires
-read-group-requires c = omega (arith, packed_length c.args.bytes.now)
+pub read_group-requires : goal.read_group-requires
+read_group-requires c = omega (arith, packed_length c.args.bytes.now)
 
-pub returns-then-address-packed-size : goal.returns-then-address-packed-size
-returns-then-address-packed-size c = load_refused _ _ (omega (arith, packed_length c.args.bytes.now))
+pub returns-then-address-packed_size : goal.returns-then-address-packed_size
+returns-then-address-packed_size c = load_refused _ _ (omega (arith, packed_length c.args.bytes.now))
 
 pub returns : goal.returns
 returns c =
     let size = packed_length c.args.bytes.now in
-    load_given _ _ _ (omega arith) (c.read-group.ensures ∙ sym (packed_at c.args.bytes.now c.args.address zero_word (omega arith)))
+    load_given _ _ _ (omega arith) (c.read_group.ensures ∙ sym (packed_at c.args.bytes.now c.args.address zero_word (omega arith)))

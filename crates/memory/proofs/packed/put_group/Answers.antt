@@ -9,6 +9,6 @@ unfolding plain_group word_group
 returns c =
     let packed = c.pack.ensures in
     record {
-      bytes = ap (λ g. g ++ drop 8 c.args.bytes.now) (c.copy-from-slice.ensures.after ∙ packed.bytes);
+      bytes = ap (λ g. g ++ drop 8 c.args.bytes.now) (c.copy_from_slice.ensures.after ∙ packed.bytes);
       back = ap (λ g. or_zero (group_word g)) (sym packed.bytes) ∙ ap or_zero packed.back;
     }

@@ -8,6 +8,6 @@ pub returns : goal.returns
 returns c =
     let w = meaning c.args.word.now in
     record {
-      bytes = put_rest c.args.bytes.now c.put-group.new.bytes (word_group w) (8 * c.args.address) (omega arith) (group_length w) c.put-group.ensures.bytes;
-      back = c.put-group.ensures.back;
+      bytes = put_rest c.args.bytes.now c.put_group.new.bytes (word_group w) (8 * c.args.address) (omega arith) (group_length w) c.put_group.ensures.bytes;
+      back = c.put_group.ensures.back;
     }

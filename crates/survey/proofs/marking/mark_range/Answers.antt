@@ -11,9 +11,9 @@ loop-address-preserved-then-next-address c = (
 
 pub loop-address-preserved : goal.loop-address-preserved
 loop-address-preserved c = (
-  marked_on c.loop-address.invariant.0 c.loop-address.invariant.1 c.loop-address-test.true c.mark-cell.ensures,
+  marked_on c.loop-address.invariant.0 c.loop-address.invariant.1 c.loop-address-test.true c.mark_cell.ensures,
   omega arith,
   c.note.ensures _ _
-      (c.mark-cell.ensures.raised c.loop-address.address (omega arith) (omega arith) (omega arith))
-      (still_marked c.mark-cell.ensures _ _ (c.skip-next.ensures.kept _ _ c.loop-address.invariant.2)),
+      (c.mark_cell.ensures.raised c.loop-address.address (omega arith) (omega arith) (omega arith))
+      (still_marked c.mark_cell.ensures _ _ (c.skip-next.ensures.kept _ _ c.loop-address.invariant.2)),
 )

@@ -12,7 +12,7 @@ loop-number-init g c = (begun _ _ _ c.clear.ensures _ (omega arith) c.new-search
 
 pub loop-number-preserved : goal.loop-number-preserved
 loop-number-preserved g c = (
-  hand_more _ (get_or-map plain c.args.hand.now.numbers c.loop-number.number-index 0 zero_word (omega arith) ∙ sym c.plain-word.ensures) c.loop-number.invariant.0 c.follow.ensures.marks,
+  hand_more _ (get_or-map plain c.args.hand.now.numbers c.loop-number.number-index 0 zero_word (omega arith) ∙ sym c.plain_word.ensures) c.loop-number.invariant.0 c.follow.ensures.marks,
   c.follow.ensures.ready,
 )
 
@@ -28,9 +28,9 @@ loop-address-preserved-in-Ok g c = (
 -- an address beyond the size, which is never listed: there is nothing to follow
 pub loop-address-preserved : goal.loop-address-preserved
 loop-address-preserved g c = (
-  cell_more c.in-Some.address zero_word (at_loaded (g.M.Memory.row c.args.memory.now) c.in-Some.address ∙ ap or_zero (sym c.in-default-load.ensures)) c.loop-address.invariant.0 c.in-Some.ensures (nothing_raised 0 0 0 _ _ (λ a l h k. absurd (omega arith))),
+  cell_more c.in-Some.address zero_word (at_loaded (g.M.Memory.row c.args.memory.now) c.in-Some.address ∙ ap or_zero (sym c.in_default-load.ensures)) c.loop-address.invariant.0 c.in-Some.ensures (nothing_raised 0 0 0 _ _ (λ a l h k. absurd (omega arith))),
   taken_ready c.in-Some.address c.loop-address.invariant.1 c.in-Some.ensures refl refl,
 )
 
 pub returns : goal.returns
-returns g c = completed c.loop-address.invariant.0 (sym (ap (λ p. p.len) c.in-default.ensures.1) ∙ c.in-default.ensures.0)
+returns g c = completed c.loop-address.invariant.0 (sym (ap (λ p. p.len) c.in_default.ensures.1) ∙ c.in_default.ensures.0)

@@ -17,7 +17,7 @@ loop-address-preserved g c =
     let after = row c.place.new.self.memory in
     let n = c.loop-address.address in
     let does =
-    subst (λ (w : Word). Does (idle before) (placing n w) (done_answer c.place.result) (idle after)) c.word-at-word.ensures c.place.ensures.lawful.does
+    subst (λ (w : Word). Does (idle before) (placing n w) (done_answer c.place.result) (idle after)) c.word_at-word.ensures c.place.ensures.lawful.does
     in
     placed_more (packed_row c.args.groups.now) (row c.args.bench.now.memory) before after n c.place.result c.loop-address.invariant (omega arith) does
 

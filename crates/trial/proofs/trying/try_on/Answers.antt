@@ -9,15 +9,15 @@ use Rattle.trial.specs.Trials.{Ends}
 use Rattle.trial.proofs.Calls.{ends}
 use Rattle.trial.proofs.trying.try_on.Goals as goal
 
-pub place-groups-requires : goal.place-groups-requires
-place-groups-requires g c =
+pub place_groups-requires : goal.place_groups-requires
+place_groups-requires g c =
     let n = length (g.M.Memory.row c.args.memory) in
     omega (arith, ap length c.make-bench.ensures.cells ∙ length-replicate n zero_word)
 
-pub count-reached-marked-requires : goal.count-reached-marked-requires
-count-reached-marked-requires g c =
+pub count_reached-marked-requires : goal.count_reached-marked-requires
+count_reached-marked-requires g c =
     let n = length (g.M.Memory.row c.args.memory) in
-    omega (arith, ap length c.make-bench.ensures.cells ∙ length-replicate n zero_word, c.place-groups.ensures.size)
+    omega (arith, ap length c.make-bench.ensures.cells ∙ length-replicate n zero_word, c.place_groups.ensures.size)
 
 pub returns : goal.returns
 returns g c =
@@ -28,13 +28,13 @@ returns g c =
     let started : Leads n [] (idle_of g.M.Memory.row c.make-bench.result) =
     subst (λ (k : ℕ). Leads k [] (idle_of g.M.Memory.row c.make-bench.result)) (sym size) c.make-bench.ensures.starts.0
     in
-    let placed = c.place-groups.ensures.placed n [] started in
-    let surveyed = (c.count-reached-marked.ensures.keeps n _ placed).0 in
+    let placed = c.place_groups.ensures.placed n [] started in
+    let surveyed = (c.count_reached-marked.ensures.keeps n _ placed).0 in
     let opened = (c.open-visit.ensures.lawful.keeps n _ surveyed).0 in
     let ran = (c.run-status.ensures.lawful.keeps n _ opened).0 in
     let closed = c.close.ensures.lawful.keeps n _ ran in
     let row = g.M.Memory.row in
-    let counts = c.count-reached-marked.result in
+    let counts = c.count_reached-marked.result in
     let outcome = c.run-status.result in
     let left : row c.end-memory.result ≡ row c.close.result.memory = ap row c.end-memory.ensures in
     subst (λ (cells : List Word). Ends words hand c.args.budget counts.0 counts.1 outcome.0 outcome.1 cells) (sym left)

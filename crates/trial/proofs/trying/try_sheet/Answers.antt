@@ -2,8 +2,8 @@ use Rattle.std.proofs.Common.{◌≡◌, ◌-◌, ◌≤◌, length, take, drop,
 use Rattle.memory.specs.Packs.{packed_row, packed_length}
 use Rattle.trial.proofs.trying.try_sheet.Goals as goal
 
-pub try-on-memory-requires : goal.try-on-memory-requires
-try-on-memory-requires c =
+pub try_on-memory-requires : goal.try_on-memory-requires
+try_on-memory-requires c =
     let cells = c.args.sheet.cells.now in
     let lent = c.new-memory.result.bytes.now in
     let cut : length lent ≡ length cells = ap (λ r. length r.now) c.new-memory.ensures ∙ simp (length-take, length-drop) (omega arith) in

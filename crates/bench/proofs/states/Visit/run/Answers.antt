@@ -22,8 +22,8 @@ returns-in-Running g c =
       lent = c.run-status.ensures.lent;
     }
 
-pub returns-in-default : goal.returns-in-default
-returns-in-default g c =
+pub returns-in_default : goal.returns-in_default
+returns-in_default g c =
     let visit = c.args.self.now in
     let m : Machine = record { registers = file visit.registers; cells = g.M.Memory.row visit.memory } in
-    record { lawful = lawful (runs (stopped c.args.budget m visit.status c.in-default.not-Running)); rest = refl; lent = refl }
+    record { lawful = lawful (runs (stopped c.args.budget m visit.status c.in_default.not-Running)); rest = refl; lent = refl }

@@ -5,8 +5,8 @@ use Rattle.machine.proofs.registers.Registers.from_hand.Goals as goal
 pub loop-i-preserved : goal.loop-i-preserved
 loop-i-preserved c =
     let there : c.loop-i.i < length c.args.hand.now.numbers = search rules in (
-      length-set c.loop-i.words c.loop-i.i c.plain-word.result ∙ c.loop-i.invariant.0,
-      filled_more c.loop-i.words c.args.hand.now.numbers c.loop-i.i c.plain-word.result (omega arith) there c.plain-word.ensures c.loop-i.invariant.1,
+      length-set c.loop-i.words c.loop-i.i c.plain_word.result ∙ c.loop-i.invariant.0,
+      filled_more c.loop-i.words c.args.hand.now.numbers c.loop-i.i c.plain_word.result (omega arith) there c.plain_word.ensures c.loop-i.invariant.1,
     )
 
 pub returns : goal.returns

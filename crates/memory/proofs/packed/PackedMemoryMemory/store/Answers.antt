@@ -18,8 +18,8 @@ returns-then-address-size c =
       bytes = from_on c.args.address (packed_size bs) _ bs (omega arith);
     }
 
-pub write-group-requires : goal.write-group-requires
-write-group-requires c = omega (arith, packed_length c.args.self.now.bytes.now)
+pub write_group-requires : goal.write_group-requires
+write_group-requires c = omega (arith, packed_length c.args.self.now.bytes.now)
 
 pub returns : goal.returns
 returns c =
@@ -29,11 +29,11 @@ returns c =
     let gs = word_group w in
     let size = packed_length bs in
     let fits : 8 * a + 8 ≤ length bs = omega arith in
-    let put = c.write-group.ensures.bytes in
+    let put = c.write_group.ensures.bytes in
     let same : packed_size (with_group bs a w) ≡ packed_size bs = ap (λ n. min 65536 (n / 8)) (same_length bs gs (8 * a) (group_length w) fits) in
     record {
       answer = store_given _ _ (omega arith);
-      after = ap packed_row put ∙ packed_set bs gs a (group_length w) (omega arith) w c.write-group.ensures.back;
+      after = ap packed_row put ∙ packed_set bs gs a (group_length w) (omega arith) w c.write_group.ensures.back;
       rest = ap (λ l. drop (8 * packed_size l) l) put
           ∙ ap (λ n. drop (8 * n) (with_group bs a w)) same
           ∙ drop_above bs gs (8 * a) (group_length w) fits (8 * packed_size bs) (omega arith);

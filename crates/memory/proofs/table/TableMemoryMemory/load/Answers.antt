@@ -8,4 +8,4 @@ pub bounds-self-address : goal.bounds-self-address
 bounds-self-address c = omega (arith, table_length c.args.self.now.numbers.now)
 
 pub returns : goal.returns
-returns c = load_given _ _ _ (omega arith) (c.plain-word.ensures ∙ sym (table_at c.args.self.now.numbers.now c.args.address (omega arith)))
+returns c = load_given _ _ _ (omega arith) (c.plain_word.ensures ∙ sym (table_at c.args.self.now.numbers.now c.args.address (omega arith)))
