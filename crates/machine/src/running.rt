@@ -15,9 +15,9 @@ use words::Word;
 
 // Makes steps until the budget is spent, or one halts or faults. It gives how the machine then stands, and how many steps were made.
 pub fn run<M: Memory>(registers: &mut Registers, memory: &mut M, budget: u32) -> (Status, u32)
-    ensures runs { Runs budget (machine registers.old (row memory.old)) Running result.1 (machine registers.new (row memory.new)) result.0 }
-    ensures rest { beyond memory.new ≡ beyond memory.old }
-    ensures lent { lent memory.new ≡ lent memory.old }
+    ensures runs { Runs budget (machine registers.old (M.Memory.row memory.old)) Running result.1 (machine registers.new (M.Memory.row memory.new)) result.0 }
+    ensures rest { M.Memory.beyond memory.new ≡ M.Memory.beyond memory.old }
+    ensures lent { M.Memory.lent memory.new ≡ M.Memory.lent memory.old }
 {
     for i in 0..budget {
         match step(registers, memory) {

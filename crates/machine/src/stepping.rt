@@ -21,10 +21,10 @@ use words::Word;
 
 // One step. A halt or a fault changes no register and no cell.
 pub fn step<M: Memory>(registers: &mut Registers, memory: &mut M) -> Flow
-    ensures flow { result ≡ flow_of (stepped (machine registers.old (row memory.old))) }
-    ensures machine { machine registers.new (row memory.new) ≡ machine_after (stepped (machine registers.old (row memory.old))) (machine registers.old (row memory.old)) }
-    ensures rest { beyond memory.new ≡ beyond memory.old }
-    ensures lent { lent memory.new ≡ lent memory.old }
+    ensures flow { result ≡ flow_of (stepped (machine registers.old (M.Memory.row memory.old))) }
+    ensures machine { machine registers.new (M.Memory.row memory.new) ≡ machine_after (stepped (machine registers.old (M.Memory.row memory.old))) (machine registers.old (M.Memory.row memory.old)) }
+    ensures rest { M.Memory.beyond memory.new ≡ M.Memory.beyond memory.old }
+    ensures lent { M.Memory.lent memory.new ≡ M.Memory.lent memory.old }
 {
     let effect = request(registers, memory);
     perform(registers, memory, effect)
@@ -32,7 +32,7 @@ pub fn step<M: Memory>(registers: &mut Registers, memory: &mut M) -> Flow
 
 // Fetches the word at the pc, and says what its instruction does.
 fn request<M: Memory>(registers: &Registers, memory: &M) -> Effect
-    ensures { effect_on (file registers.now) result ≡ requested (machine registers.now (row memory.now)) }
+    ensures { effect_on (file registers.now) result ≡ requested (machine registers.now (M.Memory.row memory.now)) }
 {
     let Word::Cap(pc) = registers.pc() else {
         return Effect::Fault(Fault::NotExecutable);
@@ -99,9 +99,9 @@ fn effect(registers: &Registers, instruction: Instruction) -> Effect
 }
 
 fn perform<M: Memory>(registers: &mut Registers, memory: &mut M, effect: Effect) -> Flow
-    ensures flow { Lands (machine registers.old (row memory.old)) (performed (file registers.old) (row memory.old) (effect_on (file registers.old) effect)) result (machine registers.new (row memory.new)) }
-    ensures rest { beyond memory.new ≡ beyond memory.old }
-    ensures lent { lent memory.new ≡ lent memory.old }
+    ensures flow { Lands (machine registers.old (M.Memory.row memory.old)) (performed (file registers.old) (M.Memory.row memory.old) (effect_on (file registers.old) effect)) result (machine registers.new (M.Memory.row memory.new)) }
+    ensures rest { M.Memory.beyond memory.new ≡ M.Memory.beyond memory.old }
+    ensures lent { M.Memory.lent memory.new ≡ M.Memory.lent memory.old }
 {
     match effect {
         Effect::Put { d, word } => put(registers, d, word),
@@ -184,7 +184,7 @@ fn jump(registers: &mut Registers, d: u32) -> Flow
 
 // Puts the word of a cell into the register and advances.
 fn read<M: Memory>(registers: &mut Registers, memory: &M, d: u32, address: u32) -> Flow
-    ensures { Lands (machine registers.old (row memory.now)) (performed (file registers.old) (row memory.now) (Read d address)) result (machine registers.new (row memory.now)) }
+    ensures { Lands (machine registers.old (M.Memory.row memory.now)) (performed (file registers.old) (M.Memory.row memory.now) (Read d address)) result (machine registers.new (M.Memory.row memory.now)) }
 {
     match memory.load(address as usize) {
         Err(refusal) => Flow::Faulted(Fault::NoCell(refusal)),
@@ -194,9 +194,9 @@ fn read<M: Memory>(registers: &mut Registers, memory: &M, d: u32, address: u32) 
 
 // Writes a word into the cell and advances. Nothing is written where the pc cannot advance.
 fn write<M: Memory>(registers: &mut Registers, memory: &mut M, address: u32, word: Word) -> Flow
-    ensures flow { Lands (machine registers.old (row memory.old)) (performed (file registers.old) (row memory.old) (Write address (meaning word))) result (machine registers.new (row memory.new)) }
-    ensures rest { beyond memory.new ≡ beyond memory.old }
-    ensures lent { lent memory.new ≡ lent memory.old }
+    ensures flow { Lands (machine registers.old (M.Memory.row memory.old)) (performed (file registers.old) (M.Memory.row memory.old) (Write address (meaning word))) result (machine registers.new (M.Memory.row memory.new)) }
+    ensures rest { M.Memory.beyond memory.new ≡ M.Memory.beyond memory.old }
+    ensures lent { M.Memory.lent memory.new ≡ M.Memory.lent memory.old }
 {
     match next(registers.pc()) {
         Some(advanced) => match memory.store(address as usize, word) {

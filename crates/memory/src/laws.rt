@@ -14,11 +14,11 @@ pub fn store_then_load<M: Memory>(
     word: Word,
     read: usize,
 ) -> Result<Word, Refusal>
-    ensures answer { load_answer result ≡ loaded_after (row memory.old) address (meaning word) read }
-    ensures after { row memory.new ≡ slice_set (row memory.old) address (meaning word) }
-    ensures rest { beyond memory.new ≡ beyond memory.old }
-    ensures lent { lent memory.new ≡ lent memory.old }
-    ensures size { length (row memory.new) ≡ length (row memory.old) }
+    ensures answer { load_answer result ≡ loaded_after (M.Memory.row memory.old) address (meaning word) read }
+    ensures after { M.Memory.row memory.new ≡ slice_set (M.Memory.row memory.old) address (meaning word) }
+    ensures rest { M.Memory.beyond memory.new ≡ M.Memory.beyond memory.old }
+    ensures lent { M.Memory.lent memory.new ≡ M.Memory.lent memory.old }
+    ensures size { length (M.Memory.row memory.new) ≡ length (M.Memory.row memory.old) }
 {
     let _ = memory.store(address, word);
     memory.load(read)
@@ -31,10 +31,10 @@ pub fn store_twice<M: Memory>(
     earlier: Word,
     later: Word,
 ) -> Result<(), Refusal>
-    ensures answer { store_answer result ≡ stored_answer (row memory.old) address }
-    ensures after { row memory.new ≡ slice_set (row memory.old) address (meaning later) }
-    ensures rest { beyond memory.new ≡ beyond memory.old }
-    ensures lent { lent memory.new ≡ lent memory.old }
+    ensures answer { store_answer result ≡ stored_answer (M.Memory.row memory.old) address }
+    ensures after { M.Memory.row memory.new ≡ slice_set (M.Memory.row memory.old) address (meaning later) }
+    ensures rest { M.Memory.beyond memory.new ≡ M.Memory.beyond memory.old }
+    ensures lent { M.Memory.lent memory.new ≡ M.Memory.lent memory.old }
 {
     let _ = memory.store(address, earlier);
     memory.store(address, later)
@@ -42,7 +42,7 @@ pub fn store_twice<M: Memory>(
 
 // How many cells a memory has less than its kind can have. No size exceeds the most, so the difference is there.
 pub fn spare_cells<M: Memory>(memory: &M) -> usize
-    ensures { result + length (row memory.now) ≡ M.Memory.most }
+    ensures { result + length (M.Memory.row memory.now) ≡ M.Memory.most }
 {
     M::most_cells() - memory.size()
 }

@@ -94,7 +94,7 @@ impl<'a> Memory for PackedMemory<'a> {
 
     fn most_cells() -> usize
         ensures value { result ≡ 65536 }
-        ensures* constant { do ⌜ result ≡ (← (⟦Self::MOST⟧).entry) ⌝ }
+        ensures constant { result ≡ CELLS }
     {
         Self::MOST
     }

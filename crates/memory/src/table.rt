@@ -47,7 +47,7 @@ impl<'a> Memory for TableMemory<'a> {
 
     fn most_cells() -> usize
         ensures value { result ≡ 65536 }
-        ensures* constant { do ⌜ result ≡ (← (⟦Self::MOST⟧).entry) ⌝ }
+        ensures constant { result ≡ CELLS }
     {
         Self::MOST
     }

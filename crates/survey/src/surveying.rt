@@ -12,8 +12,8 @@ use words::Refusal;
 // Marks each cell that the holder of the hand can reach. Each of them is loaded once, and no cell is marked twice at one level, so that
 // the time, of which no contract speaks, is nearly linear in their number whatever they hold.
 fn mark_reached<M: Memory>(memory: &M, hand: &Hand, marks: &mut [u8])
-    requires { (length marks.old ≡ length (row memory.now)) × (length marks.old ≤ 65536) }
-    ensures { Complete (hand_words hand.now) (row memory.now) marks.new }
+    requires { (length marks.old ≡ length (M.Memory.row memory.now)) × (length marks.old ≤ 65536) }
+    ensures { Complete (hand_words hand.now) (M.Memory.row memory.now) marks.new }
 {
     clear(marks);
     let mut search = Search::new();
@@ -34,7 +34,7 @@ pub fn survey<M: Memory>(
     hand: &Hand,
     chart: &mut [u8],
 ) -> Result<(usize, usize), Refusal>
-    ensures { Surveyed (hand_words hand.now) (row memory.now) chart.old result chart.new }
+    ensures { Surveyed (hand_words hand.now) (M.Memory.row memory.now) chart.old result chart.new }
 {
     let size = memory.size();
     if chart.len() < size {

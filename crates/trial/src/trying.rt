@@ -21,9 +21,9 @@ pub const AREA: usize = 16384;
 
 // Places the words of the groups, each into the cell of its own number.
 fn place_groups<M: Memory>(bench: &mut Idle<M>, groups: &[u8], count: usize)
-    requires { count ≤ length (row bench.old.memory) }
-    ensures placed { (size : ℕ) (history : History) → Leads size history (idle_of row bench.old) → Leads size (placings (packed_row groups.now) count history) (idle_of row bench.new) }
-    ensures size { length (row bench.new.memory) ≡ length (row bench.old.memory) }
+    requires { count ≤ length (M.Memory.row bench.old.memory) }
+    ensures placed { (size : ℕ) (history : History) → Leads size history (idle_of M.Memory.row bench.old) → Leads size (placings (packed_row groups.now) count history) (idle_of M.Memory.row bench.new) }
+    ensures size { length (M.Memory.row bench.new.memory) ≡ length (M.Memory.row bench.old.memory) }
 {
     for address in 0..count {
         let word = word_at(groups, address);
@@ -33,8 +33,8 @@ fn place_groups<M: Memory>(bench: &mut Idle<M>, groups: &[u8], count: usize)
 
 // The survey's counts, on a chart that has a byte for each cell.
 fn count_reached<M: Memory>(bench: &Idle<M>, hand: &Hand, chart: &mut [u8]) -> (usize, usize)
-    requires { length (row bench.now.memory) ≤ length chart.old }
-    ensures { Lawful (idle_of row bench.now) (surveying (hand_words hand.now) chart.old) (surveyed result.0 result.1 chart.new) (idle_of row bench.now) }
+    requires { length (M.Memory.row bench.now.memory) ≤ length chart.old }
+    ensures { Lawful (idle_of M.Memory.row bench.now) (surveying (hand_words hand.now) chart.old) (surveyed result.0 result.1 chart.new) (idle_of M.Memory.row bench.now) }
 {
     match bench.survey(hand, chart) {
         Ok(counts) => counts,
@@ -53,8 +53,8 @@ struct Ending<M: Memory> {
 
 // A trial on any memory that has a cell for each group.
 fn try_on<M: Memory>(memory: M, groups: &[u8], hand: &Hand, budget: u32) -> Ending<M>
-    requires { (length (row memory) ≡ length (packed_row groups.now)) × (length (row memory) ≤ 2048) }
-    ensures { Ends (packed_row groups.now) (hand_words hand.now) budget result.marked result.writable result.status result.steps (row result.memory) }
+    requires { (length (M.Memory.row memory) ≡ length (packed_row groups.now)) × (length (M.Memory.row memory) ≤ 2048) }
+    ensures { Ends (packed_row groups.now) (hand_words hand.now) budget result.marked result.writable result.status result.steps (M.Memory.row result.memory) }
 {
     let size = memory.size();
     let mut bench = Idle::make(memory);

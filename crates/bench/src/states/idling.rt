@@ -18,10 +18,10 @@ use words::{Refusal, Word};
 impl<M: Memory> Idle<M> {
     // A bench over a memory, with every cell set to integer 0.
     pub fn make(memory: M) -> Idle<M>
-        ensures starts { Starts (length (row memory)) (idle_of row result) }
-        ensures cells { row result.memory ≡ replicate (length (row memory)) zero_word }
-        ensures rest { beyond result.memory ≡ beyond memory }
-        ensures lent { lent result.memory ≡ lent memory }
+        ensures starts { Starts (length (M.Memory.row memory)) (idle_of M.Memory.row result) }
+        ensures cells { M.Memory.row result.memory ≡ replicate (length (M.Memory.row memory)) zero_word }
+        ensures rest { M.Memory.beyond result.memory ≡ M.Memory.beyond memory }
+        ensures lent { M.Memory.lent result.memory ≡ M.Memory.lent memory }
     {
         let mut memory = memory;
         let size = memory.size();
@@ -33,16 +33,16 @@ impl<M: Memory> Idle<M> {
 
     // Puts a word into a cell; refused where there is no such cell.
     pub fn place(&mut self, address: usize, word: Word) -> Result<(), Refusal>
-        ensures lawful { Lawful (idle_of row self.old) (placing address (meaning word)) (done_answer result) (idle_of row self.new) }
-        ensures rest { beyond self.new.memory ≡ beyond self.old.memory }
-        ensures lent { lent self.new.memory ≡ lent self.old.memory }
+        ensures lawful { Lawful (idle_of M.Memory.row self.old) (placing address (meaning word)) (done_answer result) (idle_of M.Memory.row self.new) }
+        ensures rest { M.Memory.beyond self.new.memory ≡ M.Memory.beyond self.old.memory }
+        ensures lent { M.Memory.lent self.new.memory ≡ M.Memory.lent self.old.memory }
     {
         self.memory.store(address, word)
     }
 
     // The word of a cell; refused where there is no such cell.
     pub fn read(&self, address: usize) -> Result<Word, Refusal>
-        ensures { Lawful (idle_of row self.now) (reading address) (word_answer result) (idle_of row self.now) }
+        ensures { Lawful (idle_of M.Memory.row self.now) (reading address) (word_answer result) (idle_of M.Memory.row self.now) }
     {
         self.memory.load(address)
     }
@@ -50,7 +50,7 @@ impl<M: Memory> Idle<M> {
     // Charts what the holder of a hand could reach, and counts it: the cells marked at all, and those marked 2 (writable). Refused where the chart is shorter
     // than the memory's size, and the chart then stays.
     pub fn survey(&self, hand: &Hand, chart: &mut [u8]) -> Result<(usize, usize), Refusal>
-        ensures lawful { Lawful (idle_of row self.now) (surveying (hand_words hand.now) chart.old) (survey_answer result chart.new) (idle_of row self.now) }
+        ensures lawful { Lawful (idle_of M.Memory.row self.now) (surveying (hand_words hand.now) chart.old) (survey_answer result chart.new) (idle_of M.Memory.row self.now) }
         ensures left { chart.new ≡ chart_left chart.old (survey_answer result chart.new) }
     {
         survey(&self.memory, hand, chart)
@@ -58,7 +58,7 @@ impl<M: Memory> Idle<M> {
 
     // Opens a visit: the hand's words go into the registers.
     pub fn open(self, hand: &Hand) -> Visit<M>
-        ensures lawful { Lawful (idle_of row self) (opening (hand_words hand.now)) done (visit_of row result) }
+        ensures lawful { Lawful (idle_of M.Memory.row self) (opening (hand_words hand.now)) done (visit_of M.Memory.row result) }
         ensures memory { result.memory ≡ self.memory }
     {
         let Idle { memory } = self;
