@@ -8,5 +8,5 @@ returns g c =
     let size : c.size-size.result - 0 ≡ length (g.M.Memory.row c.args.memory.now) = omega arith in (
       enough,
       charted _ _ c.args.chart.now c.mark_reached.new.marks _ c.mark_reached.ensures enough
-          (ap (λ (n : ℕ). c.mark_reached.new.marks ++ drop n c.args.chart.now) size) _ _ c.count.ensures c.count_2.ensures,
+          (ap (λ (n : ℕ). c.mark_reached.new.marks ++ drop n c.args.chart.now) size) _ _ c.count.ensures c.count-2.ensures,
     )
