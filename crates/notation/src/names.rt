@@ -99,7 +99,7 @@ impl Names for LocalityNames {
 
 // The first place in a table that has a name.
 pub fn place_of<N: Names>(word: &[u8]) -> Option<usize>
-    ensures { result ≡ place_of names word.now }
+    ensures { result ≡ place_of N.names word.now }
 {
     for place in 0..N::count() {
         if same_bytes(N::name(place).as_bytes(), word) {
