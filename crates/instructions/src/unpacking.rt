@@ -45,7 +45,7 @@ fn well_formed(f: Fields) -> bool
 }
 
 // The instruction that an opcode makes of register D and two operands.
-pub(crate) fn make(opcode: u32, d: u32, a: Operand, b: Operand) -> Option<Instruction>
+fn make(opcode: u32, d: u32, a: Operand, b: Operand) -> Option<Instruction>
     ensures { result ≡ made (form_of opcode) d a b }
 {
     match (opcode, a) {
