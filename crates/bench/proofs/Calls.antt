@@ -1,5 +1,5 @@
 -- From what a memory answers to what the rules say of a call.
-use Rattle.std.proofs.Common.{◌≡◌, ℕ, ◌<◌, ◌≤◌, ◌≢◌, ◌⊎◌, List, length, set, Ok, Err, Result, sym, refl, ap, ◌∙◌, subst, ⊎_elim, arith}
+use Rattle.std.proofs.Common.{◌≡◌, ℕ, ◌<◌, ◌≤◌, ◌≢◌, List, length, set, Ok, Err, Result, sym, refl, ◌∙◌, subst, ⊎_elim, arith}
 use Rattle.std.proofs.lemmas.List.{set_past}
 use Rattle.std.proofs.lemmas.Bool.{cases_lt}
 use Rattle.std.proofs.lemmas.Bool.Decides.{nat_tests}
@@ -10,7 +10,7 @@ use Rattle.words.specs.Refusals.{refusal_number}
 use Rattle.words.specs.Meaning.{meaning}
 use Rattle.memory.specs.Row as row
 use Rattle.memory.specs.Row.{load_answer, loaded, store_answer, stored_answer}
-use Rattle.model.specs.Bench.{Answer, refused, word, idle, Does, placing, reading, places, places_no_cell, reads_cell, reads_no_cell, survey, surveys, surveys_short, chart_left, visiting, register_reading, reads_register, reads_no_register}
+use Rattle.model.specs.Bench.{refused, word, idle, Does, placing, reading, places, places_no_cell, reads_cell, reads_no_cell, survey, surveys, surveys_short, chart_left, visiting, register_reading, reads_register, reads_no_register}
 use Rattle.machine.specs.Files.{register_read}
 use Rattle.model.specs.declared.status.Status.{Status}
 use Rattle.model.specs.declared.status.Status.TheVariants.{Running, Halted, Failed}

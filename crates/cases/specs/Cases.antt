@@ -1,5 +1,5 @@
 -- The worked cases, each under its name.
-use Rattle.std.specs.Prelude.{ℕ, true, false, List, [], ◌∷◌, ℤ, pos, negsuc, None, codes}
+use Rattle.std.specs.Prelude.{ℕ, true, false, List, [], ◌∷◌, pos, negsuc, None, codes}
 use Rattle.std.specs.List.{AllByRecursion}
 use Rattle.words.specs.declared.permission.Permission.{Permission}
 use Rattle.words.specs.declared.permission.Permission.TheVariants.{RO, RW, RWL, RX, E}

@@ -1,5 +1,5 @@
 -- A word as a number of 64 bits. Bits are counted from 63, the most significant, down to 0.
-use Rattle.std.specs.Prelude.{◌≡◌, ℕ, suc, ◌+◌, ◌-◌, ◌*◌, ◌/◌, ◌%◌, ◌^◌, ◌<◌, ◌≤◌, Bool, cond, ◌&&◌, ℤ, pos, negsuc, Some, None, Option, ◌==◌, nat_lt}
+use Rattle.std.specs.Prelude.{◌≡◌, ℕ, suc, ◌+◌, ◌-◌, ◌*◌, ◌/◌, ◌%◌, ◌^◌, ◌<◌, ◌≤◌, cond, ◌&&◌, ℤ, pos, negsuc, Some, None, Option, ◌==◌, nat_lt}
 use Rattle.words.specs.Permissions.{permission_code}
 use Rattle.words.specs.Localities.{locality_code}
 use Rattle.words.specs.Word.{Cap, Word, integer, capability, zero_word}

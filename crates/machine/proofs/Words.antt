@@ -7,7 +7,7 @@ use Rattle.words.specs.Word.{Word, zero_word, at}
 use Rattle.words.specs.Meaning.{meaning}
 use Rattle.groups.specs.Packing.{plain}
 use Rattle.model.specs.declared.fault.Fault.{Fault}
-use Rattle.model.specs.Machine.{put, faulting}
+use Rattle.model.specs.Machine.{put}
 use Rattle.model.specs.Effects.{shifting}
 use Rattle.effects.specs.Shifts.{Shifts}
 use Rattle.machine.specs.Files.{Shifted}

@@ -2,7 +2,7 @@
 use Rattle.std.proofs.Common.{◌≡◌, ℕ, ◌<◌, ◌≤◌, cond, ltb, List, length, arith}
 use Rattle.std.proofs.lemmas.Bool.Decides.{nat_tests}
 use Rattle.words.specs.Word.{Word, at}
-use Rattle.memory.specs.Row.{Answer, given, refused, loaded, stored_answer}
+use Rattle.memory.specs.Row.{given, refused, loaded, stored_answer}
 
 module _ (row : List Word) (a : ℕ) where
   pub load_refused : length row ≤ a → refused 1 ≡ loaded row a

@@ -1,5 +1,5 @@
 -- What a packed row is like, and what writing one group does to it.
-use Rattle.std.proofs.Common.{◌≡◌, ℕ, ◌+◌, ◌-◌, ◌*◌, ◌<◌, ◌≤◌, ◌≢◌, ◌⊎◌, List, [], ◌++◌, length, get_or, take, drop, set, Some, None, Option, sym, refl, ap, ◌∙◌, inl, inr, ⊎_elim, arith, length-drop, length-set, length-take, rules}
+use Rattle.std.proofs.Common.{◌≡◌, ℕ, ◌+◌, ◌-◌, ◌*◌, ◌<◌, ◌≤◌, ◌⊎◌, List, [], ◌++◌, length, get_or, take, drop, set, Some, None, Option, sym, refl, ap, ◌∙◌, ⊎_elim, arith, length-drop, length-set, length-take, rules}
 use borrow.Rule.Slice.PartMut.{put_mid}
 use lib.Seq.{paste}
 use Rattle.std.proofs.lemmas.List.{same_lists, places, get_or-set_same, get_or-set_other, get_or-take, get_or-drop, take_all, take_rest, take_at, length-take-le, drop_all, drop_at, drop-drop, append-nil, append_assoc}
@@ -9,7 +9,7 @@ use Rattle.std.proofs.lemmas.Bool.{cases_eq, cases_lt}
 use Rattle.words.specs.Word.{Word, zero_word}
 use Rattle.groups.specs.Packing.{or_zero}
 use Rattle.groups.specs.Groups.{group_at}
-use Rattle.groups.specs.Answers.{Unpacking, word, refused, or_refused}
+use Rattle.groups.specs.Answers.{word, refused, or_refused}
 use Rattle.memory.specs.Packs.{packed_size, packed_row, packed_length, plain_group, word_group}
 
 -- What unpacking answers, and what a group means.

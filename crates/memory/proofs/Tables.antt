@@ -1,8 +1,8 @@
 -- What a table's row is like.
-use Rattle.std.proofs.Common.{◌≡◌, ℕ, ◌<◌, min, List, map, length, get_or, take, set, ap, ◌∙◌, arith, length-take}
+use Rattle.std.proofs.Common.{◌≡◌, ℕ, ◌<◌, List, map, length, get_or, take, set, ap, ◌∙◌, arith, length-take}
 use lib.Seq.{take-set-lt}
 use Rattle.std.proofs.lemmas.List.{get_or-map, get_or-take, map-set}
-use Rattle.words.specs.Word.{Word, at, zero_word}
+use Rattle.words.specs.Word.{at, zero_word}
 use Rattle.groups.specs.Packing.{plain}
 use Rattle.memory.specs.Tables.{table_row, table_length}
 

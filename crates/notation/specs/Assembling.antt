@@ -1,12 +1,12 @@
 -- The sheet that a text says, or the first mistake in it.
-use Rattle.std.specs.Prelude.{ℕ, suc, ◌+◌, ◌-◌, ◌/◌, ◌%◌, ◌^◌, List, [], ◌∷◌, ◌++◌, length, Some, None, Option}
+use Rattle.std.specs.Prelude.{ℕ, ◌+◌, ◌-◌, ◌/◌, ◌%◌, ◌^◌, List, [], ◌∷◌, ◌++◌, length, Some, None, Option}
 use Rattle.words.specs.Word.{Word}
 use Rattle.groups.specs.Packing.{packed}
 use Rattle.groups.specs.Groups.{group}
 use Rattle.notation.specs.declared.expected.Expected.{Expected}
 use Rattle.notation.specs.declared.expected.Expected.TheVariants.{Budget}
 use Rattle.notation.specs.Scanning.{lines}
-use Rattle.notation.specs.Drafts.{Draft, empty_draft, Adding, added, wrong, line_added}
+use Rattle.notation.specs.Drafts.{Draft, empty_draft, added, wrong, line_added}
 
 -- The bytes of a sheet: the budget in four, most significant first, then the groups of the hand and of the cells.
 abbrev pub four_bytes : ℕ → List ℕ

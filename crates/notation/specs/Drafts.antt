@@ -1,5 +1,5 @@
 -- A sheet in the making, and what a line adds to it.
-use Rattle.std.specs.Prelude.{ℕ, suc, ◌+◌, ◌-◌, Bool, true, false, cond, not, ◌&&◌, List, [], ◌∷◌, ◌++◌, length, replicate, is_some, Some, None, Option, ◌==◌, nat_le, nat_lt, slice_index_or, slice_set}
+use Rattle.std.specs.Prelude.{ℕ, ◌-◌, Bool, true, false, cond, ◌&&◌, List, [], ◌∷◌, ◌++◌, length, replicate, is_some, Some, None, Option, ◌==◌, nat_le, nat_lt, slice_index_or, slice_set}
 use Rattle.words.specs.Word.{Word, zero_word}
 use Rattle.notation.specs.declared.expected.Expected.{Expected}
 use Rattle.notation.specs.declared.expected.Expected.TheVariants.{LabelName, NewLabel, OneBudget, OneWord, AddressAhead, Room}

@@ -2,7 +2,7 @@
 use Rattle.std.specs.Prelude.{◌≡◌, ℕ, ◌+◌, List, [], ◌∷◌, ◌++◌, length, pos, Some, None, Option}
 use Rattle.words.specs.Word.{Word}
 use Rattle.notation.specs.Scanning.{lines}
-use Rattle.notation.specs.Labels.{Definition, label_of, defined, value_in}
+use Rattle.notation.specs.Labels.{label_of, defined, value_in}
 use Rattle.notation.specs.Drafts.{Draft, empty_draft, added, wrong, line_added}
 use Rattle.notation.specs.Assembling.{sheet, sheet_bytes, assembled}
 

@@ -1,5 +1,5 @@
 -- The names of instructions, permissions and localities, each in the order of its codes: the tables that writing and reading share.
-use Rattle.std.specs.Prelude.{ℕ, suc, ◌+◌, Bool, true, false, cond, ◌||◌, List, [], ◌∷◌, Some, None, codes, Option, ◌==◌, nat_le, slice_index_or}
+use Rattle.std.specs.Prelude.{ℕ, ◌+◌, Bool, cond, ◌||◌, List, [], ◌∷◌, Some, None, codes, Option, ◌==◌, nat_le, slice_index_or}
 use Rattle.std.specs.Str.{bytes_eq}
 
 -- From opcode 1 on.

@@ -1,10 +1,10 @@
 -- What may stand at each place of a line: registers, operands, addresses, and words of the machine.
-use Rattle.std.specs.Prelude.{ℕ, ◌+◌, ◌-◌, ◌^◌, Bool, cond, List, [], ◌∷◌, length, ℤ, pos, negsuc, Some, None, Option, nat_le, nat_lt}
+use Rattle.std.specs.Prelude.{ℕ, ◌+◌, ◌-◌, ◌^◌, Bool, cond, List, length, ℤ, pos, negsuc, Some, None, Option, nat_le, nat_lt}
 use Rattle.words.specs.declared.permission.Permission.{Permission}
 use Rattle.words.specs.declared.locality.Locality.{Locality}
 use Rattle.words.specs.Permissions.{permission_at}
 use Rattle.words.specs.Localities.{locality_at}
-use Rattle.words.specs.Word.{Cap, Word, integer, capability}
+use Rattle.words.specs.Word.{Word, integer, capability}
 use Rattle.words.specs.Making.{Making, made, refused, made_with}
 use Rattle.instructions.specs.declared.instruction.Operand.{Operand}
 use Rattle.instructions.specs.declared.instruction.Operand.TheVariants.{Register as register_operand, Constant}

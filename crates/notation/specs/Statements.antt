@@ -1,12 +1,10 @@
 -- What a line says: at most one statement, after a label if there is one.
-use Rattle.std.specs.Prelude.{ℕ, ◌+◌, Bool, true, false, cond, ◌&&◌, ◌||◌, List, [], ◌∷◌, length, Some, None, codes, Option, ◌==◌}
+use Rattle.std.specs.Prelude.{ℕ, cond, List, length, Some, None, codes, Option, ◌==◌}
 use Rattle.std.specs.Str.{bytes_eq}
 use Rattle.words.specs.Word.{Word}
-use Rattle.notation.specs.declared.expected.Expected.{Expected}
 use Rattle.notation.specs.declared.expected.Expected.TheVariants.{End, AddressAhead}
 use Rattle.notation.specs.Scanning.{skipped, front, behind}
 use Rattle.notation.specs.Numerals.{number_in, register_in}
-use Rattle.notation.specs.Labels.{unlabelled}
 use Rattle.notation.specs.Places.{Parsed, got, missed, then, taken, steps_at, word_at}
 
 pub data Statement : Type 0 where

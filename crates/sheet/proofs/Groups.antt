@@ -1,14 +1,14 @@
 -- Reading a sheet group by group.
-use Rattle.std.proofs.Common.{◌≡◌, ℕ, ◌+◌, ◌-◌, ◌*◌, ◌<◌, ◌≤◌, ◌≢◌, ◌⊎◌, List, length, get_or, take, drop, set, Some, None, Ok, Err, Option, Result, sym, refl, ap, ◌∙◌, subst, ⊎_elim, arith, length-set}
+use Rattle.std.proofs.Common.{◌≡◌, ℕ, ◌+◌, ◌-◌, ◌<◌, ◌≢◌, List, length, take, drop, set, Some, None, Ok, Err, Option, Result, sym, refl, ap, ◌∙◌, ⊎_elim, arith, length-set}
 use Rattle.std.proofs.lemmas.List.{get_or-set_same, get_or-set_other}
 use Rattle.std.proofs.lemmas.Bool.{cases_eq}
 use Rattle.words.specs.declared.refusal.Refusal.{Refusal}
 use Rattle.words.specs.Word.{Word, at, zero_word}
 use Rattle.groups.specs.declared.hand.Hand.{Hand}
 use Rattle.groups.specs.Groups.{group_word, group_at}
-use Rattle.groups.specs.Answers.{Unpacking, word, refused, or_refused}
+use Rattle.groups.specs.Answers.{word, refused, or_refused}
 use Rattle.groups.specs.Hands.{hand_words, Set}
-use Rattle.sheet.specs.Sheets.{sheet_word, offset, Packs}
+use Rattle.sheet.specs.Sheets.{sheet_word, offset}
 
 -- What unpacking answered, as the group's word.
 given : (o : Option Word) (w : Word) → word w ≡ or_refused o → o ≡ Some w

@@ -1,5 +1,5 @@
 -- Skips that stay right, and ranges that are marked by them.
-use Rattle.std.proofs.Common.{◌≡◌, ℕ, zero, suc, ◌+◌, ◌<◌, ◌≤◌, min, List, length, get_or, replicate, refl, subst, arith}
+use Rattle.std.proofs.Common.{◌≡◌, ℕ, zero, suc, ◌+◌, ◌<◌, ◌≤◌, min, List, get_or, replicate, refl, subst, arith}
 use Rattle.survey.specs.declared.pending.Pending.{Pending}
 use Rattle.survey.specs.declared.skips.Skips.{Skips}
 use Rattle.survey.specs.Marking.{Raised}

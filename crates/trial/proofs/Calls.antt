@@ -1,8 +1,8 @@
 -- What the calls of a trial do, one after the other.
-use Rattle.std.proofs.Common.{◌≡◌, ℕ, suc, ◌+◌, ◌<◌, ◌≤◌, List, [], ◌∷◌, length, Ok, Err, Result, sym, refl, ap, ◌∙◌, subst, add-one, arith, length-set}
+use Rattle.std.proofs.Common.{◌≡◌, ℕ, ◌+◌, ◌<◌, ◌≤◌, List, [], ◌∷◌, length, Ok, Err, Result, refl, ◌∙◌, subst, add-one, arith, length-set}
 use Rattle.words.specs.declared.refusal.Refusal.{Refusal}
 use Rattle.words.specs.Word.{Word, at}
-use Rattle.model.specs.Bench.{Call, Answer, State, placing, survey, done, refused, idle, cells_of, Does, places, places_no_cell, surveys_short, History, Leads, next, opening, run, closing, surveyed, outcome}
+use Rattle.model.specs.Bench.{Answer, State, placing, survey, done, refused, idle, cells_of, Does, places, places_no_cell, surveys_short, History, Leads, next, opening, run, closing, surveyed, outcome}
 use Rattle.model.specs.declared.status.Status.{Status}
 use Rattle.model.specs.Findings.{Findings}
 use Rattle.bench.specs.Answers.{done_answer}

@@ -4,7 +4,6 @@ use Rattle.std.specs.Fmt.{signed_decimal}
 use Rattle.words.specs.Permissions.{permission_code}
 use Rattle.words.specs.Localities.{locality_code}
 use Rattle.words.specs.Word.{Word, integer, capability}
-use Rattle.model.specs.declared.fault.Fault.{Fault}
 use Rattle.model.specs.declared.status.Status.{Status}
 use Rattle.model.specs.declared.status.Status.TheVariants.{Running, Halted, Failed}
 use Rattle.model.specs.Faults.{fault_number}

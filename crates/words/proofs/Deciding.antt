@@ -1,5 +1,5 @@
 -- The test of the permissions' order decides the order as the rule states it.
-use Rattle.std.proofs.Common.{◌≡◌, Bool, true, false, not, ◌&&◌, ◌||◌, T, ◌≢◌, refl, subst}
+use Rattle.std.proofs.Common.{Bool, true, false, ◌&&◌, ◌||◌, T, ◌≢◌, refl, subst}
 use Rattle.words.specs.declared.permission.Permission.{Permission}
 use Rattle.words.specs.declared.permission.Permission.TheVariants.{O, RO, RW, RWL, RX, E, RWX, RWLX}
 use Rattle.words.specs.Permissions.{reads, writes, executes, stores_local, is_enter}

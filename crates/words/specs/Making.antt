@@ -1,5 +1,5 @@
 -- Making a capability: what the rules give for each choice of its parts.
-use Rattle.std.specs.Prelude.{ℕ, Bool, cond, ◌&&◌, Some, None, Ok, Err, Option, Result, nat_le}
+use Rattle.std.specs.Prelude.{ℕ, cond, ◌&&◌, Some, None, Ok, Err, Option, Result, nat_le}
 use Rattle.words.specs.declared.permission.Permission.{Permission}
 use Rattle.words.specs.declared.locality.Locality.{Locality}
 use Rattle.words.specs.declared.capability.Capability.{Capability}

@@ -1,5 +1,5 @@
 -- When one permission, locality, pair of bounds or capability is below another: as a statement, and as the test that decides it.
-use Rattle.std.specs.Prelude.{◌≡◌, ℕ, Bool, true, false, not, ◌&&◌, ◌||◌, T, ◌≢◌, nat_le}
+use Rattle.std.specs.Prelude.{ℕ, Bool, true, false, not, ◌&&◌, ◌||◌, T, ◌≢◌, nat_le}
 use Rattle.words.specs.declared.permission.Permission.{Permission}
 use Rattle.words.specs.declared.permission.Permission.TheVariants.{O, RO, RW, RWL, RX, E, RWX, RWLX}
 use Rattle.words.specs.declared.locality.Locality.{Locality}

@@ -1,5 +1,5 @@
 -- Words as the rules speak of them: plain values, with no proofs in them.
-use Rattle.std.specs.Prelude.{ℕ, ◌<◌, ◌≤◌, Bool, true, false, ◌&&◌, List, ℤ, pos, negsuc, nat_le, nat_lt, slice_index_or}
+use Rattle.std.specs.Prelude.{ℕ, ◌<◌, ◌≤◌, Bool, false, ◌&&◌, List, ℤ, pos, negsuc, nat_le, nat_lt, slice_index_or}
 use Rattle.words.specs.declared.permission.Permission.{Permission}
 use Rattle.words.specs.declared.locality.Locality.{Locality}
 use Rattle.words.specs.Localities.{local}

@@ -1,7 +1,6 @@
 use Rattle.std.proofs.Common.{◌≡◌, length, sym, refl, ap, ◌∙◌, arith}
-use Rattle.words.specs.Meaning.{meaning}
 use Rattle.groups.specs.Packing.{unpacked, packed}
-use Rattle.groups.specs.Groups.{group, number_at, group_word}
+use Rattle.groups.specs.Groups.{group, number_at}
 use Rattle.groups.specs.Answers.{or_refused}
 use Rattle.groups.proofs.RoundTrip.{fits}
 use Rattle.groups.proofs.Bytes.{full, number_group}

@@ -1,7 +1,7 @@
 use Rattle.std.proofs.Common.{rules}
 use Rattle.words.specs.Word.{capability}
 use Rattle.words.specs.Meaning.{cap_of}
-use Rattle.groups.proofs.RoundTrip.{there, nowhere}
+use Rattle.groups.proofs.RoundTrip.{there}
 use Rattle.groups.proofs.number.decode.Goals as goal
 
 pub returns-in_ok-held : goal.returns-in_ok-held

@@ -2,7 +2,7 @@ use Rattle.std.proofs.Common.{◌≡◌, ℕ, List, set, Ok, sym, ap, ◌∙◌}
 use Rattle.std.proofs.lemmas.List.{set-set, set-get_or}
 use Rattle.words.specs.Word.{Word, zero_word, at}
 use Rattle.words.specs.Meaning.{meaning}
-use Rattle.model.specs.Machine.{Machine, Effect}
+use Rattle.model.specs.Machine.{Machine}
 use Rattle.model.specs.Effects.{shifting}
 use Rattle.model.specs.Step.{advance, perform}
 use Rattle.machine.specs.Files.{file, Shifted}

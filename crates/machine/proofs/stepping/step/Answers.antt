@@ -1,6 +1,5 @@
 use Rattle.std.proofs.Common.{sym, ap}
 use Rattle.model.specs.Step.{perform, step}
-use Rattle.machine.specs.Files.{file}
 use Rattle.machine.specs.Flows.{machine}
 use Rattle.machine.proofs.Landing.{lands_at, landed_flow, landed_machine}
 use Rattle.machine.proofs.stepping.step.Goals as goal

@@ -1,4 +1,4 @@
-use Rattle.std.proofs.Common.{◌≡◌, cond, ltb, length, set, ap, ◌∙◌, length-set}
+use Rattle.std.proofs.Common.{cond, ltb, set, ap, ◌∙◌, length-set}
 use Rattle.std.proofs.lemmas.List.{set-set}
 use Rattle.words.specs.Meaning.{meaning}
 use Rattle.memory.specs.Row.{given, refused, stored_answer}

@@ -1,4 +1,4 @@
-use Rattle.std.proofs.Common.{◌≡◌, ◌++◌, drop, sym, ap, ◌∙◌}
+use Rattle.std.proofs.Common.{◌++◌, drop, sym, ap, ◌∙◌}
 use Rattle.groups.specs.Packing.{or_zero}
 use Rattle.groups.specs.Groups.{group_word}
 use Rattle.memory.specs.Packs.{plain_group, word_group}

@@ -1,4 +1,4 @@
-use Rattle.std.proofs.Common.{◌≡◌, ◌*◌, arith}
+use Rattle.std.proofs.Common.{◌*◌, arith}
 use Rattle.words.specs.Meaning.{meaning}
 use Rattle.memory.specs.Packs.{word_group}
 use Rattle.memory.proofs.Packs.{put_rest, group_length}

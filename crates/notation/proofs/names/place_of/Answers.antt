@@ -1,7 +1,6 @@
 use Rattle.std.proofs.Common.{sym, ap, ◌∙◌, arith}
 use Rattle.std.specs.Str.{bytes_eq}
 use Rattle.notation.proofs.Naming.{found, passed, none_left}
-use Rattle.notation.proofs.names.place_of.Given as given
 use Rattle.notation.proofs.names.place_of.Goals as goal
 
 pub loop-place-preserved : goal.loop-place-preserved

@@ -1,5 +1,5 @@
-use Rattle.std.proofs.Common.{◌≡◌, ◌<◌, ◌≤◌, [], ◌∷◌, length, take, drop, sym, refl, ap, ◌∙◌, arith, true-eqb, false-eqb}
-use Rattle.std.proofs.lemmas.List.{take_all, drop_all}
+use Rattle.std.proofs.Common.{◌<◌, ◌≤◌, ◌∷◌, length, drop, sym, ap, ◌∙◌, arith, true-eqb, false-eqb}
+use Rattle.std.proofs.lemmas.List.{take_all}
 use Rattle.notation.specs.Scanning.{lines}
 use Rattle.scanning.proofs.Scans.{line_cut, line_last, empty_list}
 use Rattle.scanning.proofs.lines.first_line.Goals as goal

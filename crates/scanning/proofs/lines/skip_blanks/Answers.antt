@@ -1,4 +1,4 @@
-use Rattle.std.proofs.Common.{◌≡◌, ◌<◌, length, sym, ap, ◌∙◌, arith, true-eqb, false-eqb}
+use Rattle.std.proofs.Common.{◌<◌, length, sym, ap, ◌∙◌, arith, true-eqb, false-eqb}
 use Rattle.notation.specs.Scanning.{skipped}
 use Rattle.scanning.proofs.Scans.{skip_one, skip_none, skip_empty}
 use Rattle.scanning.proofs.lines.skip_blanks.Goals as goal

@@ -1,4 +1,4 @@
-use Rattle.std.proofs.Common.{sym, ap, ◌∙◌}
+use Rattle.std.proofs.Common.{sym, ◌∙◌}
 use Rattle.scanning.proofs.Naming.{byte_passes, byte_fails, bytes_done}
 use Rattle.scanning.proofs.names.has_name_bytes.Goals as goal
 

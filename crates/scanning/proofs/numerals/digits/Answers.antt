@@ -1,4 +1,4 @@
-use Rattle.std.proofs.Common.{◌≡◌, ◌+◌, ◌*◌, ◌^◌, ◌<◌, drop, sym, ap, ◌∙◌, arith}
+use Rattle.std.proofs.Common.{◌+◌, ◌*◌, drop, sym, ap, ◌∙◌, arith}
 use Rattle.scanning.specs.Digits.{digits_from}
 use Rattle.scanning.proofs.Figures.{digit_more, digit_none, digits_done, ten_times}
 use Rattle.scanning.proofs.numerals.digits.Goals as goal

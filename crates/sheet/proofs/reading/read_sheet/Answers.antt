@@ -1,4 +1,4 @@
-use Rattle.std.proofs.Common.{sym, inr, arith, rules}
+use Rattle.std.proofs.Common.{inr, rules}
 use Rattle.std.proofs.lemmas.Result.{err_from_is_err_and}
 use Rattle.std.proofs.lemmas.List.{take_rest}
 use Rattle.words.specs.Word.{at}

@@ -4,7 +4,7 @@ use Rattle.memory.specs.Packs.{packed_row}
 use Rattle.model.specs.Bench.{placing, idle, Does, Leads}
 use Rattle.bench.specs.Answers.{done_answer}
 use Rattle.trial.specs.Trials.{placings}
-use Rattle.trial.proofs.Calls.{Placed, placed_none, placed_more}
+use Rattle.trial.proofs.Calls.{placed_none, placed_more}
 use Rattle.trial.proofs.trying.place_groups.Goals as goal
 
 pub loop-address-init : goal.loop-address-init

@@ -1,9 +1,9 @@
-use Rattle.std.proofs.Common.{◌≡◌, ℕ, ◌≤◌, List, [], length, sym, ap, ◌∙◌, subst, arith}
+use Rattle.std.proofs.Common.{◌≡◌, ℕ, List, [], length, sym, ap, ◌∙◌, subst, arith}
 use lib.ListN.{length-replicate}
 use Rattle.words.specs.Word.{Word, zero_word}
 use Rattle.groups.specs.Hands.{hand_words}
 use Rattle.memory.specs.Packs.{packed_row}
-use Rattle.model.specs.Bench.{idle, Leads}
+use Rattle.model.specs.Bench.{Leads}
 use Rattle.bench.specs.States.{idle_of}
 use Rattle.trial.specs.Trials.{Ends}
 use Rattle.trial.proofs.Calls.{ends}

@@ -1,5 +1,5 @@
-use Rattle.std.proofs.Common.{◌≡◌, ◌-◌, ◌≤◌, length, take, drop, ap, ◌∙◌, arith, length-drop, length-take}
-use Rattle.memory.specs.Packs.{packed_row, packed_length}
+use Rattle.std.proofs.Common.{◌≡◌, length, ap, ◌∙◌, arith, length-drop, length-take}
+use Rattle.memory.specs.Packs.{packed_length}
 use Rattle.trial.proofs.trying.try_sheet.Goals as goal
 
 pub try_on-memory-requires : goal.try_on-memory-requires

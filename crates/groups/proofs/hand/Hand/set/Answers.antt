@@ -1,6 +1,5 @@
-use Rattle.std.proofs.Common.{◌≡◌, set, ap, ◌∙◌}
+use Rattle.std.proofs.Common.{set, ap, ◌∙◌}
 use Rattle.std.proofs.lemmas.List.{map-set}
-use Rattle.words.specs.Meaning.{meaning}
 use Rattle.groups.specs.Packing.{plain, or_zero}
 use Rattle.groups.specs.Hands.{hand_words}
 use Rattle.groups.proofs.hand.Hand.set.Goals as goal

@@ -1,4 +1,4 @@
-use Rattle.std.proofs.Common.{◌≡◌, ◌<◌, ◌≤◌, length, ◌∙◌, arith, length-set, rules}
+use Rattle.std.proofs.Common.{◌<◌, ◌≤◌, length, ◌∙◌, arith, length-set, rules}
 use Rattle.machine.proofs.Words.{filled_more, filled_all}
 use Rattle.machine.proofs.registers.Registers.from_hand.Goals as goal
 

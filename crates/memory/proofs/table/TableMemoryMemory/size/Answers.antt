@@ -1,4 +1,4 @@
-use Rattle.std.proofs.Common.{◌≡◌, arith}
+use Rattle.std.proofs.Common.{arith}
 use Rattle.memory.specs.Tables.{table_length}
 use Rattle.memory.proofs.table.TableMemoryMemory.size.Goals as goal
 

@@ -1,6 +1,5 @@
 use Rattle.std.proofs.Common.{set, sym, refl, ap, ◌∙◌, arith}
 use Rattle.std.proofs.lemmas.List.{set_past, drop-set-lt}
-use Rattle.words.specs.Meaning.{meaning}
 use Rattle.groups.specs.Packing.{or_zero}
 use Rattle.memory.specs.Tables.{table_row, table_size, table_length}
 use Rattle.memory.proofs.Answering.{store_refused, store_given, below, from_on}
