@@ -38,7 +38,7 @@ fn probe_sizes(rt: &impl Abort, bytes: &mut [u8]) -> Result<(), Fail> {
 #[test]
 fn packed_memories_have_a_cell_to_each_full_group(rt: HostRuntime) -> Result<(), Fail> {
     let mut bytes = [0u8; 524_301];
-    probe_sizes(&rt, &mut bytes)
+    probe_sizes(&rt, bytes.as_mut_slice())
 }
 
 #[test]

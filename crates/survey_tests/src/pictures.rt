@@ -160,7 +160,7 @@ fn check_picture(rt: &impl Abort, (held, cells, marks, counts): Picture) -> Resu
     };
     assert_eq!(rt; answer.0, counts.0);
     assert_eq!(rt; answer.1, counts.1);
-    assert!(rt; &chart[0..5] == &marks);
+    assert!(rt; &chart[0..5] == marks.as_slice());
     assert!(rt; chart[5] == 9 && chart[6] == 9);
     Ok(())
 }
