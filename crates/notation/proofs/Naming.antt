@@ -5,7 +5,7 @@ use Rattle.std.proofs.lemmas.Slice.Eq.{bytes_eq-Decides}
 use Rattle.std.proofs.lemmas.List.{drop_all}
 use Rattle.notation.specs.Names.{named, place_from}
 
--- A test that decides whether two texts are the same is `sameBytes`.
+-- A test that decides whether two texts are the same is `bytes_eq`.
 pub same_by : (xs ys : List ℕ) (r : Bool) → Decides r (xs ≡ ys) → r ≡ bytes_eq xs ys
 same_by xs ys r h = search (rules, bytes_eq-Decides)
 
