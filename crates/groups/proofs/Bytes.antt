@@ -44,6 +44,3 @@ group_number bs h small =
     digits (number_at bs 0) (get_or bs 0 0) (get_or bs 1 0) (get_or bs 2 0) (get_or bs 3 0) (get_or bs 4 0) (get_or bs 5 0) (get_or bs 6 0) (get_or bs 7 0)
     (small 0) (small 1) (small 2) (small 3) (small 4) (small 5) (small 6) (small 7) refl
     ∙ sym (eight bs h)
-
-pub full : (bs : List ℕ) → length bs ≡ 8 → group_word bs ≡ unpacked (number_at bs 0)
-full bs h = ap (λ n. cond (eqb n 8) (unpacked (number_at bs 0)) None) h

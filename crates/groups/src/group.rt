@@ -20,22 +20,6 @@ pub fn unpack(bytes: &[u8]) -> Result<Word, Refusal>
     ensures value { unpacking result ≡ unpacking_of bytes.now }
     ensures exactly { Unpacks bytes.now result }
 {
-    if bytes.len() != 8 {
-        return Err(Refusal::MalformedGroup);
-    }
-    match decode(number(bytes)) {
-        Some(word) => Ok(word),
-        None => Err(Refusal::MalformedGroup),
-    }
-}
-
-// The number in eight bytes.
-fn number(bytes: &[u8]) -> u64
-    requires { length bytes.now ≡ 8 }
-    ensures value { result ≡ number_at bytes.now 0 }
-    ensures back { group result ≡ bytes.now }
-{
-    u64::from_be_bytes([
-        bytes[0], bytes[1], bytes[2], bytes[3], bytes[4], bytes[5], bytes[6], bytes[7],
-    ])
+    let group = <[u8; 8]>::try_from(bytes).map_err(|_| Refusal::MalformedGroup)?;
+    decode(u64::from_be_bytes(group)).ok_or(Refusal::MalformedGroup)
 }

@@ -8,7 +8,7 @@ use words::{Refusal, Word};
 
 // Sixteen words as plain numbers, one for each register from register 0 (the pc) on: what a visit is opened with. A number that packs no word means
 // integer 0.
-#[derive(Clone, Copy)]
+#[derive(Clone, Copy, Debug, PartialEq, Eq)]
 pub struct Hand {
     pub numbers: [u64; 16],
 }
@@ -25,6 +25,7 @@ impl Hand {
     pub fn set(&mut self, register: usize, word: &Word) -> Result<(), Refusal>
         ensures { Set self.old register (meaning word.now) result self.new }
     {
+        // by the index, since after `get_mut` no proof knows the numbers of the other registers
         if register >= 16 {
             return Err(Refusal::NoRegister);
         }
@@ -36,9 +37,7 @@ impl Hand {
     pub fn word(&self, register: usize) -> Result<Word, Refusal>
         ensures { given_word result ≡ word_in self.now register }
     {
-        if register >= 16 {
-            return Err(Refusal::NoRegister);
-        }
-        Ok(plain_word(self.numbers[register]))
+        let number = self.numbers.get(register).ok_or(Refusal::NoRegister)?;
+        Ok(plain_word(*number))
     }
 }

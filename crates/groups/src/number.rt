@@ -5,7 +5,7 @@ ghost use Rattle.groups.specs.Answers.{word_given, capability_given, Decodes};
 
 use words::{Capability, Word};
 
-// The word as a number: its group, the first byte most significant.
+// The word as a number: its group, the first byte most significant. A function and no From, since neither type is this crate's own.
 pub fn encode(word: &Word) -> u64
     ensures value { result ≡ packed (meaning word.now) }
     ensures back { unpacked result ≡ Some (meaning word.now) }
@@ -14,8 +14,8 @@ pub fn encode(word: &Word) -> u64
         Word::Int(integer) => u64::from(integer.cast_unsigned()),
         Word::Cap(held) => {
             (1 << 63)
-                + (u64::from(held.permission().code()) << 59)
-                + (u64::from(held.locality().code()) << 57)
+                + (u64::from(u32::from(held.permission())) << 59)
+                + (u64::from(u32::from(held.locality())) << 57)
                 + (u64::from(held.base()) << 40)
                 + (u64::from(held.end()) << 23)
                 + (u64::from(held.cursor()) << 6)
@@ -56,8 +56,5 @@ pub fn decode(number: u64) -> Option<Word>
 pub fn plain_word(number: u64) -> Word
     ensures { meaning result ≡ plain number }
 {
-    match decode(number) {
-        Some(word) => word,
-        None => Word::Int(0),
-    }
+    decode(number).unwrap_or(Word::Int(0))
 }

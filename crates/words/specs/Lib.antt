@@ -6,3 +6,4 @@ pub mod Refusals
 pub mod Meaning
 pub mod Making
 pub mod Parts
+pub mod Kinds

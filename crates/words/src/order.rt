@@ -1,6 +1,6 @@
 ghost use Rattle.std.specs.Prelude.{◌≡◌, Bool, true};
 
-// When one value is below another: it allows no more.
+// When one value is below another: it allows no more. No PartialOrd, which would have to answer from both directions at once: the rules ask for one.
 pub trait Order {
     // whether the first value is below the second
     ghost under: { Self → Self → Bool };

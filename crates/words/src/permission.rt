@@ -1,13 +1,16 @@
 ghost use Rattle.std.specs.Prelude.{◌≡◌, Bool, true};
 ghost use Rattle.words.specs.Permissions.{permission_code, permission_at, reads, writes, executes, stores_local, is_enter, enter};
 ghost use Rattle.words.specs.Orders.{below_permission, PermissionBelow, Exactly};
+ghost use Rattle.std.specs.Option.{ok_or};
+ghost use Rattle.words.specs.declared.refusal.Refusal.TheVariants.{UnknownCode};
 ghost use Rattle.std.proofs.Common.{rules};
 
 use super::order::Order;
+use super::refusal::Refusal;
 
 // What a capability allows. The letters stand for reading, writing, storing Local capabilities and executing. O allows nothing, and E (enter) allows
 // nothing until it is jumped to.
-#[derive(Clone, Copy)]
+#[derive(Clone, Copy, Debug, PartialEq, Eq)]
 pub enum Permission {
     O,
     RO,
@@ -20,28 +23,6 @@ pub enum Permission {
 }
 
 impl Permission {
-    pub fn code(self) -> u32
-        ensures { result ≡ permission_code self }
-    {
-        self as u32
-    }
-
-    pub fn from_code(code: u32) -> Option<Permission>
-        ensures { result ≡ permission_at code }
-    {
-        match code {
-            0 => Some(Permission::O),
-            1 => Some(Permission::RO),
-            2 => Some(Permission::RW),
-            3 => Some(Permission::RWL),
-            4 => Some(Permission::RX),
-            5 => Some(Permission::E),
-            6 => Some(Permission::RWX),
-            7 => Some(Permission::RWLX),
-            _ => None,
-        }
-    }
-
     pub fn reads(self) -> bool
         ensures { result ≡ reads self }
     {
@@ -51,10 +32,10 @@ impl Permission {
     pub fn writes(self) -> bool
         ensures { result ≡ writes self }
     {
-        match self {
-            Permission::RW | Permission::RWL | Permission::RWX | Permission::RWLX => true,
-            _ => false,
-        }
+        matches!(
+            self,
+            Permission::RW | Permission::RWL | Permission::RWX | Permission::RWLX
+        )
     }
 
     pub fn executes(self) -> bool
@@ -94,6 +75,36 @@ impl Permission {
     }
 }
 
+// The code of a permission.
+impl From<Permission> for u32 {
+    ghost from_gives = { λ permission code. code ≡ permission_code permission };
+
+    fn from(permission: Permission) -> u32 {
+        permission as u32
+    }
+}
+
+// The permission that has a code; refused where none has it. Written out as that of a locality is: a table for both would name as many variants and codes.
+impl TryFrom<u32> for Permission {
+    type Error = Refusal;
+
+    ghost try_from_gives = { λ code r. r ≡ ok_or (permission_at code) UnknownCode };
+
+    fn try_from(code: u32) -> Result<Permission, Refusal> {
+        match code {
+            0 => Ok(Permission::O),
+            1 => Ok(Permission::RO),
+            2 => Ok(Permission::RW),
+            3 => Ok(Permission::RWL),
+            4 => Ok(Permission::RX),
+            5 => Ok(Permission::E),
+            6 => Ok(Permission::RWX),
+            7 => Ok(Permission::RWLX),
+            _ => Err(Refusal::UnknownCode),
+        }
+    }
+}
+
 impl Order for Permission {
     ghost under = { below_permission };
 
@@ -104,26 +115,15 @@ impl Order for Permission {
     ghost transitive = { Prim.search rules };
 
     fn below(&self, other: &Permission) -> bool {
-        match (*self, *other) {
-            (Permission::O, _) => true,
-            (Permission::E, Permission::E | Permission::RX | Permission::RWX | Permission::RWLX) =>
-                true,
-            (Permission::E, _) => false,
-            (Permission::RO, Permission::O | Permission::E) => false,
-            (Permission::RO, _) => true,
-            (
-                Permission::RW,
-                Permission::RW | Permission::RWL | Permission::RWX | Permission::RWLX,
-            ) => true,
-            (Permission::RW, _) => false,
-            (Permission::RWL, Permission::RWL | Permission::RWLX) => true,
-            (Permission::RWL, _) => false,
-            (Permission::RX, Permission::RX | Permission::RWX | Permission::RWLX) => true,
-            (Permission::RX, _) => false,
-            (Permission::RWX, Permission::RWX | Permission::RWLX) => true,
-            (Permission::RWX, _) => false,
-            (Permission::RWLX, Permission::RWLX) => true,
-            (Permission::RWLX, _) => false,
+        match *self {
+            Permission::O => true,
+            Permission::E => other.is_enter() || other.executes(),
+            Permission::RO => other.reads(),
+            Permission::RW => other.writes(),
+            Permission::RWL => other.stores_local(),
+            Permission::RX => other.executes(),
+            Permission::RWX => other.writes() && other.executes(),
+            Permission::RWLX => other.stores_local() && other.executes(),
         }
     }
 }

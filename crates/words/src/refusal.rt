@@ -2,36 +2,28 @@ ghost use Rattle.std.specs.Prelude.{◌≡◌};
 ghost use Rattle.words.specs.Refusals.{refusal_number};
 
 // Why a call was refused. A refusal changes nothing.
-#[derive(Clone, Copy)]
+#[derive(Clone, Copy, Debug, PartialEq, Eq)]
 pub enum Refusal {
     // the address is at or beyond the memory's size
-    NoCell,
+    NoCell = 1,
     // the register number is above 15
-    NoRegister,
+    NoRegister = 2,
     // a base, an end or a cursor above 65,536, or a constant that an operand has no room for
-    OutOfRange,
+    OutOfRange = 3,
     // no permission or no locality has this code
-    UnknownCode,
+    UnknownCode = 4,
     // the bytes pack no word
-    MalformedGroup,
+    MalformedGroup = 5,
     // the chart has fewer bytes than the memory has cells
-    ShortChart,
+    ShortChart = 6,
     // the program's input has a length that no sheet has
-    MalformedInput,
+    MalformedInput = 7,
 }
 
 impl Refusal {
     pub fn number(self) -> u32
         ensures { result ≡ refusal_number self }
     {
-        match self {
-            Refusal::NoCell => 1,
-            Refusal::NoRegister => 2,
-            Refusal::OutOfRange => 3,
-            Refusal::UnknownCode => 4,
-            Refusal::MalformedGroup => 5,
-            Refusal::ShortChart => 6,
-            Refusal::MalformedInput => 7,
-        }
+        self as u32
     }
 }

@@ -27,15 +27,12 @@ impl Capability {
     ) -> Result<Capability, Refusal>
         ensures { making result ≡ made_from permission locality base end cursor }
     {
-        let Some(permission) = Permission::from_code(permission) else {
-            return Err(Refusal::UnknownCode);
-        };
-        let Some(locality) = Locality::from_code(locality) else {
-            return Err(Refusal::UnknownCode);
-        };
+        let permission = Permission::try_from(permission)?;
+        let locality = Locality::try_from(locality)?;
         Capability::new(permission, locality, base, end, cursor)
     }
 
+    // The five parts one by one: a struct of them would be the capability itself.
     pub fn new(
         permission: Permission,
         locality: Locality,
@@ -60,51 +57,38 @@ impl Capability {
     pub fn covers(&self, address: u32) -> bool
         ensures { result ≡ covers (cap_of self.now) address }
     {
-        self.base <= address && address < self.end
+        (self.base..self.end).contains(&address)
     }
 
     // The same with another cursor; refused where that is above 65,536.
-    pub fn with_cursor(self, cursor: u32) -> Result<Capability, Refusal>
+    pub fn with_cursor(mut self, cursor: u32) -> Result<Capability, Refusal>
         ensures { making result ≡ moved_to (cap_of self) cursor }
     {
         if cursor > TOP {
             return Err(Refusal::OutOfRange);
         }
-        Ok(Capability {
-            permission: self.permission,
-            locality: self.locality,
-            base: self.base,
-            end: self.end,
-            cursor,
-        })
+        self.cursor = cursor;
+        Ok(self)
     }
 
     // The same with other bounds; refused where one of them is above 65,536.
-    pub fn with_bounds(self, bounds: Bounds) -> Result<Capability, Refusal>
+    pub fn with_bounds(mut self, bounds: Bounds) -> Result<Capability, Refusal>
         ensures { making result ≡ bounded_by (cap_of self) bounds.base bounds.end }
     {
         if bounds.base > TOP || bounds.end > TOP {
             return Err(Refusal::OutOfRange);
         }
-        Ok(Capability {
-            permission: self.permission,
-            locality: self.locality,
-            base: bounds.base,
-            end: bounds.end,
-            cursor: self.cursor,
-        })
+        self.base = bounds.base;
+        self.end = bounds.end;
+        Ok(self)
     }
 
-    pub fn with_rights(self, rights: Rights) -> Capability
+    pub fn with_rights(mut self, rights: Rights) -> Capability
         ensures { cap_of result ≡ with_rights (cap_of self) rights.first rights.second }
     {
-        Capability {
-            permission: rights.first,
-            locality: rights.second,
-            base: self.base,
-            end: self.end,
-            cursor: self.cursor,
-        }
+        self.permission = rights.first;
+        self.locality = rights.second;
+        self
     }
 
     pub fn bounds(&self) -> Bounds

@@ -5,6 +5,7 @@ use super::Capability;
 use crate::locality::Locality;
 use crate::permission::Permission;
 
+// The addresses are plain numbers, each with its bound: callers compute with them, and would have to take a type of addresses apart at every use.
 impl Capability {
     pub fn permission(&self) -> Permission
         ensures { result ≡ (cap_of self.now).permission }

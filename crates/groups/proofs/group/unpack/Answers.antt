@@ -1,31 +1,31 @@
-use Rattle.std.proofs.Common.{◌≡◌, length, sym, refl, ap, ◌∙◌, arith}
-use Rattle.groups.specs.Packing.{unpacked, packed}
+use Rattle.std.proofs.Common.{◌≡◌, ℕ, ◌^◌, ◌<◌, length, List, Some, None, Option, Result, sym, refl, ap, subst, ◌∙◌, arith, rules}
+use Rattle.std.specs.Option.{ok_or}
+use Rattle.words.specs.declared.word.Word.{Word as Held}
+use Rattle.words.specs.declared.refusal.Refusal.{Refusal}
+use Rattle.words.specs.declared.refusal.Refusal.TheVariants.{MalformedGroup}
+use Rattle.groups.specs.Packing.{packed}
 use Rattle.groups.specs.Groups.{group, number_at}
-use Rattle.groups.specs.Answers.{or_refused}
+use Rattle.groups.specs.Answers.{Unpacks, Decodes}
 use Rattle.groups.proofs.RoundTrip.{fits}
-use Rattle.groups.proofs.Bytes.{full, number_group}
+use Rattle.groups.proofs.Bytes.{group_number, number_group}
 use Rattle.groups.proofs.group.unpack.Goals as goal
 
-pub returns-in-Some : goal.returns-in-Some
-returns-in-Some c =
-    let eight : length c.args.bytes.now ≡ 8 = omega arith in
-    let there = full c.args.bytes.now eight ∙ ap unpacked (sym c.number.ensures.value) in
-    record {
-      value = sym (ap or_refused (there ∙ sym c.in-Some.ensures.value));
-      exactly = ap group c.in-Some.ensures.exactly ∙ c.number.ensures.back;
-    }
+-- The number in the bytes packs a word, or it packs none.
+unpacks : (bytes : List ℕ) (n : ℕ) (w : Option Held) → group n ≡ bytes → n < 2 ^ 64 → Decodes n w → Unpacks bytes (ok_or w MalformedGroup)
+unpacks bytes n (Some w) back small packs = ap group packs ∙ back
+unpacks bytes n None back small packs = (
+  refl,
+  λ w exists same.
+      let numbers = ap (λ bytes. number_at bytes 0) (same ∙ sym back) in
+      packs w exists (sym (number_group (packed w) (fits w exists)) ∙ numbers ∙ number_group n small),
+)
 
-pub returns-in-None : goal.returns-in-None
-returns-in-None c =
-    let eight : length c.args.bytes.now ≡ 8 = omega arith in
-    let there = full c.args.bytes.now eight ∙ ap unpacked (sym c.number.ensures.value) in
-    let n = c.number.result in
-    record {
-      value = sym (ap or_refused (there ∙ sym c.in-None.ensures.value));
-      exactly = (
-        refl,
-        λ w exists same.
-            let numbers = ap (λ bytes. number_at bytes 0) (same ∙ sym c.number.ensures.back) in
-            c.in-None.ensures.exactly w exists (sym (number_group (packed w) (fits w exists)) ∙ numbers ∙ number_group n c.number.type_inv),
-      );
-    }
+pub returns-clause-exactly : goal.returns-clause-exactly
+returns-clause-exactly c =
+    let bytes = c.args.bytes.now in
+    let same : c.in_ok-group.group ≡ bytes = search rules in
+    let eight : length bytes ≡ 8 = search rules in
+    let value : c.from_be_bytes.result ≡ number_at bytes 0 = search rules in
+    let back = ap group value ∙ group_number bytes eight (λ i. omega (arith, c.type_inv.bytes i)) in
+    let answer : Result Held Refusal → Type 0 = λ r. Unpacks bytes r in
+    subst answer (sym c.ok_or.ensures.value) (unpacks bytes c.from_be_bytes.result c.decode.result back c.from_be_bytes.type_inv c.decode.ensures.exactly)
