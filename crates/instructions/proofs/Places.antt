@@ -4,7 +4,7 @@ use Rattle.std.proofs.lemmas.Bool.Decides.{nat_tests}
 use Rattle.instructions.specs.declared.instruction.Operand.{Operand}
 use Rattle.instructions.specs.declared.instruction.Operand.TheVariants.{Register, Constant}
 use Rattle.instructions.specs.Operands.{register_fits, constant_fits, operand_bits, operand_at}
-use Rattle.instructions.specs.Table.{Parts}
+use Rattle.instructions.specs.declared.parts.Parts.{Parts}
 use Rattle.instructions.specs.Packing.{packed, packing_parts, joined, fields_of}
 use Rattle.instructions.proofs.Reading.{Holds}
 

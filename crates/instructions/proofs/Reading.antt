@@ -8,7 +8,8 @@ use Rattle.instructions.specs.declared.instruction.Instruction.{Instruction}
 use Rattle.instructions.specs.declared.instruction.Instruction.TheVariants.{Fail, Halt, Jmp, Jnz, Move, Load, Store, Plus, Minus, Lt, Lea, Restrict, Subseg, IsPtr, GetP, GetL, GetB, GetE, GetA, Quot}
 use Rattle.instructions.specs.declared.fields.Fields.{Fields}
 use Rattle.instructions.specs.Operands.{flagged, operand_at}
-use Rattle.instructions.specs.Table.{Form, no_instruction, alone, with_d, with_d_a, with_d_register, with_d_a_b, form_of, Parts, parts, parts_of, unused}
+use Rattle.instructions.specs.declared.parts.Parts.{Parts}
+use Rattle.instructions.specs.Table.{Form, no_instruction, alone, with_d, with_d_a, with_d_register, with_d_a_b, form_of, parts, parts_of, unused}
 use Rattle.instructions.specs.Forms.{well_formed, made, made_with, filled, instruction_of}
 
 -- The fields hold these parts.

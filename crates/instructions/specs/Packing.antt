@@ -5,7 +5,8 @@ use Rattle.words.specs.Refusals.{refusal_number}
 use Rattle.instructions.specs.declared.instruction.Instruction.{Instruction}
 use Rattle.instructions.specs.declared.fields.Fields.{Fields}
 use Rattle.instructions.specs.Operands.{register_exists, register_fits, constant_fits, operand_bits}
-use Rattle.instructions.specs.Table.{Parts, parts_of}
+use Rattle.instructions.specs.declared.parts.Parts.{Parts}
+use Rattle.instructions.specs.Table.{parts_of}
 use Rattle.instructions.specs.Forms.{instruction_of}
 
 -- An integer, or the number of a refusal.

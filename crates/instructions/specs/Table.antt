@@ -3,6 +3,7 @@ use Rattle.std.specs.Prelude.{ℕ, cond, pos, ◌==◌}
 use Rattle.instructions.specs.declared.instruction.Operand.{Operand}
 use Rattle.instructions.specs.declared.instruction.Operand.TheVariants.{Register, Constant}
 use Rattle.instructions.specs.declared.instruction.Instruction.{Instruction}
+use Rattle.instructions.specs.declared.parts.Parts.{Parts}
 use Rattle.instructions.specs.declared.instruction.Instruction.TheVariants.{Fail, Halt, Jmp, Jnz, Move, Load, Store, Plus, Minus, Lt, Lea, Restrict, Subseg, IsPtr, GetP, GetL, GetB, GetE, GetA, Quot}
 
 -- The fields that an instruction uses, with the instruction that they make. In `with_d_register` A is a register, and no constant.
@@ -43,12 +44,6 @@ form_of n =
     (row 20 n (with_d_a_b Quot) no_instruction)))))))))))))))))))
 
 -- The parts of an instruction: its opcode, and what stands in D, A and B.
-pub record Parts : Type 0 where
-  pub opcode : ℕ
-  pub d : ℕ
-  pub a : Operand
-  pub b : Operand
-
 abbrev pub parts : ℕ → ℕ → Operand → Operand → Parts
 parts opcode d a b = record { opcode = opcode; d = d; a = a; b = b }
 

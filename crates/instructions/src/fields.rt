@@ -2,7 +2,7 @@ ghost use Rattle.std.specs.Prelude.{◌≡◌};
 ghost use Rattle.instructions.specs.Packing.{fields_of};
 
 // The four fields of an instruction's integer, as numbers: the opcode, the number of register D, and the eleven bits of each operand.
-#[derive(Clone, Copy)]
+#[derive(Clone, Copy, Debug, PartialEq, Eq)]
 pub struct Fields {
     pub opcode: u32,
     pub d: u32,
@@ -10,11 +10,11 @@ pub struct Fields {
     pub b: u32,
 }
 
-impl Fields {
-    // The fields of a number.
-    pub fn split(number: u32) -> Fields
-        ensures { result ≡ fields_of number }
-    {
+// The fields of a number.
+impl From<u32> for Fields {
+    ghost from_gives = { λ number fields. fields ≡ fields_of number };
+
+    fn from(number: u32) -> Fields {
         Fields {
             opcode: number >> 26,
             d: (number >> 22) % 0x10,

@@ -1,12 +1,12 @@
 // What an instruction works on: the word in a register, or a constant that the instruction itself holds.
-#[derive(Clone, Copy)]
+#[derive(Clone, Copy, Debug, PartialEq, Eq)]
 pub enum Operand {
     Register(u32),
     Constant(i32),
 }
 
 // What one step does. `d` is the number of a register, mostly the one that is written; where `a` is a number, it is that of a register too.
-#[derive(Clone, Copy)]
+#[derive(Clone, Copy, Debug, PartialEq, Eq)]
 pub enum Instruction {
     Fail,
     Halt,

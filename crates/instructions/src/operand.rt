@@ -26,7 +26,7 @@ impl Operand {
     {
         match self {
             Operand::Register(_) => true,
-            Operand::Constant(value) => -512 <= value && value <= 511,
+            Operand::Constant(value) => (-512..=511).contains(&value),
         }
     }
 

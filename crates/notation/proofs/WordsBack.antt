@@ -18,7 +18,8 @@ use Rattle.instructions.specs.declared.instruction.Operand.TheVariants.{Register
 use Rattle.instructions.specs.declared.instruction.Instruction.{Instruction}
 use Rattle.instructions.specs.declared.instruction.Instruction.TheVariants.{Fail, Halt, Jmp, Jnz, Move, Load, Store, Plus, Minus, Lt, Lea, Restrict, Subseg, IsPtr, GetP, GetL, GetB, GetE, GetA, Quot}
 use Rattle.instructions.specs.Operands.{in_range, register_fits, constant_fits}
-use Rattle.instructions.specs.Table.{Parts, parts_of, form_of, unused}
+use Rattle.instructions.specs.declared.parts.Parts.{Parts}
+use Rattle.instructions.specs.Table.{parts_of, form_of, unused}
 use Rattle.instructions.specs.Forms.{made as made_of}
 use Rattle.instructions.specs.Packing.{Packing, packed, packing_of, packing_parts, unpacked}
 use Rattle.instructions.proofs.RoundTrip.{exactly}

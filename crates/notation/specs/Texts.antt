@@ -7,7 +7,8 @@ use Rattle.words.specs.Word.{Cap, Word, integer, capability}
 use Rattle.instructions.specs.declared.instruction.Operand.{Operand}
 use Rattle.instructions.specs.declared.instruction.Operand.TheVariants.{Register, Constant}
 use Rattle.instructions.specs.declared.instruction.Instruction.{Instruction}
-use Rattle.instructions.specs.Table.{Parts, parts_of}
+use Rattle.instructions.specs.declared.parts.Parts.{Parts}
+use Rattle.instructions.specs.Table.{parts_of}
 use Rattle.instructions.specs.Packing.{unpacked}
 use Rattle.notation.specs.Names.{instruction_names, permission_names, locality_names, named, has_d, has_a, has_b}
 

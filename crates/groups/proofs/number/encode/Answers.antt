@@ -5,9 +5,12 @@ use Rattle.groups.specs.Packing.{packed, unpacked}
 use Rattle.groups.proofs.RoundTrip.{back}
 use Rattle.groups.proofs.number.encode.Goals as goal
 
-pub returns-in-Cap-clause-back : goal.returns-in-Cap-clause-back
-returns-in-Cap-clause-back c =
+pub returns-in-Cap : goal.returns-in-Cap
+returns-in-Cap c =
     let held = c.in-Cap.held in
     let is : meaning c.args.word.now ≡ capability (cap_of held) = ap meaning c.in-Cap.is in
     let value : _ ≡ packed (meaning c.args.word.now) = search rules in
-    ap unpacked value ∙ ap (λ w. unpacked (packed w)) is ∙ back (capability (cap_of held)) held.within ∙ ap Some (sym is)
+    record {
+      value = value;
+      back = ap unpacked value ∙ ap (λ w. unpacked (packed w)) is ∙ back (capability (cap_of held)) held.within ∙ ap Some (sym is);
+    }
