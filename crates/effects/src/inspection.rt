@@ -46,8 +46,8 @@ fn number(c: Capability, part: Part) -> u32
     ensures small { result ≤ 65536 }
 {
     match part {
-        Part::Permission => c.permission().code(),
-        Part::Locality => c.locality().code(),
+        Part::Permission => u32::from(c.permission()),
+        Part::Locality => u32::from(c.locality()),
         Part::Base => c.base(),
         Part::End => c.end(),
         Part::Cursor => c.cursor(),

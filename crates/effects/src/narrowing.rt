@@ -38,8 +38,8 @@ fn rights(code: i32) -> Option<Rights>
         return None;
     }
     let code = code.cast_unsigned();
-    let first = Permission::from_code(code / 4)?;
-    let second = Locality::from_code(code % 4)?;
+    let first = Permission::try_from(code / 4).ok()?;
+    let second = Locality::try_from(code % 4).ok()?;
     Some(Pair { first, second })
 }
 

@@ -1,25 +1,28 @@
 -- What a packed row is like, and what writing one group does to it.
-use Rattle.std.proofs.Common.{◌≡◌, ℕ, ◌+◌, ◌-◌, ◌*◌, ◌<◌, ◌≤◌, ◌⊎◌, List, [], ◌++◌, length, get_or, take, drop, set, Some, None, Option, sym, refl, ap, ◌∙◌, ⊎_elim, arith, length-drop, length-set, length-take, rules}
+use Rattle.std.proofs.Common.{◌≡◌, ℕ, ◌+◌, ◌-◌, ◌*◌, ◌<◌, ◌≤◌, ◌⊎◌, List, Result, Ok, Err, pos, [], ◌++◌, length, get_or, take, drop, set, Some, None, Option, sym, refl, ap, ◌∙◌, ⊎_elim, arith, length-drop, length-set, length-take, rules}
 use borrow.Rule.Slice.PartMut.{put_mid}
 use lib.Seq.{paste}
 use Rattle.std.proofs.lemmas.List.{same_lists, places, get_or-set_same, get_or-set_other, get_or-take, get_or-drop, take_all, take_rest, take_at, length-take-le, drop_all, drop_at, drop-drop, append-nil, append_assoc}
 use Rattle.std.proofs.lemmas.List.Edits.{length-paste, drop-paste}
 use Rattle.std.proofs.lemmas.List.FromFn.{get_or-map-range_with_len}
 use Rattle.std.proofs.lemmas.Bool.{cases_eq, cases_lt}
-use Rattle.words.specs.Word.{Word, zero_word}
+use Rattle.words.specs.Word.{Word}
 use Rattle.groups.specs.Packing.{or_zero}
 use Rattle.groups.specs.Groups.{group_at}
-use Rattle.groups.specs.Answers.{word, refused, or_refused}
+use Rattle.std.specs.Result.{result_unwrap_or}
+use Rattle.words.specs.Meaning.{meaning}
+use Rattle.words.specs.declared.refusal.Refusal.{Refusal}
+use Rattle.words.specs.declared.word.Word.{Word as Held}
+use Rattle.words.specs.declared.word.Word.TheVariants.{Int}
+use Rattle.groups.specs.Answers.{unpacking, or_refused}
 use Rattle.memory.specs.Packs.{packed_size, packed_row, packed_length, plain_group, word_group}
 
 -- What unpacking answers, and what a group means.
-pub means : (o : Option Word) (w : Word) → word w ≡ or_refused o → w ≡ or_zero o
-means (Some v) w e = cc
-means None w e = let z : ◌≡◌ {A = ℕ} 0 1 = cc in absurd (omega arith)
-
-pub means_zero : (o : Option Word) (n : ℕ) → refused n ≡ or_refused o → zero_word ≡ or_zero o
-means_zero (Some v) n e = let z : ◌≡◌ {A = ℕ} 0 1 = cc in absurd (omega arith)
-means_zero None n e = refl
+pub means : (o : Option Word) (r : Result Held Refusal) → unpacking r ≡ or_refused o → meaning (result_unwrap_or r (Int (pos 0))) ≡ or_zero o
+means (Some v) (Ok w) e = cc
+means None (Ok w) e = let z : ◌≡◌ {A = ℕ} 0 1 = cc in absurd (omega arith)
+means (Some v) (Err f) e = let z : ◌≡◌ {A = ℕ} 0 1 = cc in absurd (omega arith)
+means None (Err f) e = refl
 
 pub group_length : (w : Word) → length (word_group w) ≡ 8
 unfolding word_group

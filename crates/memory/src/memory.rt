@@ -22,7 +22,7 @@ pub trait Memory {
     // the ghost names of the loans that it holds, by which a caller knows what it gets back
     ghost lent: { Self → List ℕ };
 
-    // MOST, in clauses
+    // MOST, in clauses; a ghost MOST beside the constant gets no proof where the impl has a lifetime
     ghost most: { ℕ };
 
     // the size never exceeds the most

@@ -10,7 +10,7 @@ use groups::{pack, unpack};
 use words::{Refusal, Word};
 
 // A memory on borrowed bytes, one cell to each full group of eight up to 65,536. A group that packs no word means integer 0; bytes after the last cell are
-// never touched.
+// never touched. Not one type with the table over the kind of cell: the bytes after the last full group are no cell, and are given back too.
 #[derive(Drop)]
 pub struct PackedMemory<'a> {
     bytes: &'a mut [u8],
@@ -37,10 +37,7 @@ fn read_group(bytes: &[u8], address: usize) -> Word
     requires { 8 * address + 8 ≤ length bytes.now }
     ensures { meaning result ≡ plain_group (group_at bytes.now (8 * address)) }
 {
-    match unpack(&bytes[8 * address..8 * address + 8]) {
-        Ok(word) => word,
-        Err(_) => Word::Int(0),
-    }
+    unpack(&bytes[8 * address..8 * address + 8]).unwrap_or(Word::Int(0))
 }
 
 fn packed_size(bytes: &[u8]) -> usize

@@ -66,8 +66,8 @@ impl fmt::Display for ChangedCell {
         match self.word {
             Word::Int(value) => write!(f, "cell {address} int {value}"),
             Word::Cap(held) => {
-                let permission = held.permission().code();
-                let locality = held.locality().code();
+                let permission = u32::from(held.permission());
+                let locality = u32::from(held.locality());
                 let base = held.base();
                 let end = held.end();
                 let cursor = held.cursor();

@@ -38,8 +38,8 @@ const ABOVE: [u32; 8] = [
 ];
 
 fn is_above(code: u32, other: u32) -> bool {
-    match (Permission::from_code(code), Permission::from_code(other)) {
-        (Some(lower), Some(upper)) => lower.below(&upper),
+    match (Permission::try_from(code), Permission::try_from(other)) {
+        (Ok(lower), Ok(upper)) => lower.below(&upper),
         _ => false,
     }
 }

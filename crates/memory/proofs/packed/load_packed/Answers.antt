@@ -5,9 +5,6 @@ use Rattle.memory.proofs.Answering.{load_given, load_refused}
 use Rattle.memory.proofs.Packs.{packed_at}
 use Rattle.memory.proofs.packed.load_packed.Goals as goal
 
-pub read_group-requires : goal.read_group-requires
-read_group-requires c = omega (arith, packed_length c.args.bytes.now)
-
 pub returns-then-address-packed_size : goal.returns-then-address-packed_size
 returns-then-address-packed_size c = load_refused _ _ (omega (arith, packed_length c.args.bytes.now))
 

@@ -1,22 +1,15 @@
-use Rattle.std.proofs.Common.{◌≡◌, ◌+◌, ◌*◌, ◌/◌, ◌≤◌, min, length, drop, sym, refl, ap, ◌∙◌, arith}
-use Rattle.std.proofs.lemmas.List.{set_past}
+use Rattle.std.proofs.Common.{◌≡◌, ◌+◌, ◌*◌, ◌/◌, ◌≤◌, min, length, drop, refl, ap, ◌∙◌, arith}
 use Rattle.words.specs.Meaning.{meaning}
 use Rattle.memory.specs.Packs.{packed_row, packed_size, packed_length, word_group, with_group}
-use Rattle.memory.proofs.Answering.{store_refused, store_given, below, from_on}
+use Rattle.memory.proofs.Answering.{store_given, below, from_on}
 use Rattle.memory.proofs.Packs.{packed_set, same_length, drop_above, group_length}
 use Rattle.memory.proofs.packed.PackedMemoryMemory.store.Goals as goal
 
-pub returns-then-address-size : goal.returns-then-address-size
-returns-then-address-size c =
+pub returns-then-address-size-clause-bytes : goal.returns-then-address-size-clause-bytes
+returns-then-address-size-clause-bytes c =
     let bs = c.args.self.now.bytes.now in
     let size = packed_length bs in
-    record {
-      answer = store_refused _ _ (omega arith);
-      after = sym (set_past _ _ _ (omega arith));
-      rest = refl;
-      lent = refl;
-      bytes = from_on c.args.address (packed_size bs) _ bs (omega arith);
-    }
+    from_on c.args.address (packed_size bs) _ bs (omega arith)
 
 pub write_group-requires : goal.write_group-requires
 write_group-requires c = omega (arith, packed_length c.args.self.now.bytes.now)

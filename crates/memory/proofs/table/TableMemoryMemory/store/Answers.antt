@@ -1,22 +1,16 @@
-use Rattle.std.proofs.Common.{set, sym, refl, ap, ◌∙◌, arith}
-use Rattle.std.proofs.lemmas.List.{set_past, drop-set-lt}
+use Rattle.std.proofs.Common.{set, refl, ap, ◌∙◌, arith}
+use Rattle.std.proofs.lemmas.List.{drop-set-lt}
 use Rattle.groups.specs.Packing.{or_zero}
 use Rattle.memory.specs.Tables.{table_row, table_size, table_length}
-use Rattle.memory.proofs.Answering.{store_refused, store_given, below, from_on}
+use Rattle.memory.proofs.Answering.{store_given, below, from_on}
 use Rattle.memory.proofs.Tables.{table_set}
 use Rattle.memory.proofs.table.TableMemoryMemory.store.Goals as goal
 
-pub returns-then-address-size : goal.returns-then-address-size
-returns-then-address-size c =
+pub returns-then-address-size-clause-numbers : goal.returns-then-address-size-clause-numbers
+returns-then-address-size-clause-numbers c =
     let ns = c.args.self.now.numbers.now in
     let size = table_length ns in
-    record {
-      answer = store_refused _ _ (omega arith);
-      after = sym (set_past _ _ _ (omega arith));
-      rest = refl;
-      lent = refl;
-      numbers = from_on c.args.address (table_size ns) _ ns (omega arith);
-    }
+    from_on c.args.address (table_size ns) _ ns (omega arith)
 
 pub bounds-self-address : goal.bounds-self-address
 bounds-self-address c = omega (arith, table_length c.args.self.now.numbers.now)
