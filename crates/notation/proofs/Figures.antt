@@ -14,7 +14,7 @@ use Rattle.notation.specs.Names.{place_from}
 use Rattle.notation.specs.Numerals.{digits_after, number_in, positive, negative, integer_in, register_in}
 use Rattle.notation.specs.Places.{fits_word}
 
-own : IsNumeralModel (λ ds. all_ascii_digits ds ≡ true) (digits_after 0)
+pub own : IsNumeralModel (λ ds. all_ascii_digits ds ≡ true) (digits_after 0)
 own = numerals_by_fold _ (search rules) digits_after (search rules)
 
 -- A byte of a name or a number: a minus sign, a digit, or something above the colon and the semicolon.
