@@ -35,7 +35,7 @@ made_exists None l b e k c h = grind arith
 
 cap_exists : (o : Option Cap) (w : Word) → ((c : Cap) → o ≡ Some c → Exists (capability c)) → as_word o ≡ Some w → Exists w
 cap_exists (Some c) w h e = let same : capability c ≡ w = cc in subst Exists same (h c refl)
-cap_exists None w h e = let z : ◌≡◌ {A = ℕ} 0 1 = cc in absurd (omega arith)
+cap_exists None w h e = absurd (cc)
 
 unpacked_exists : (n : ℕ) (w : Word) → unpacked n ≡ Some w → Exists w
 unpacked_exists n w h =
@@ -51,7 +51,7 @@ unpacked_exists n w h =
     (λ (f : t ≡ true).
     cap_exists (capability_in n) w
     (made_exists (permission_at (bits n 59 4)) (locality_at (bits n 57 2)) (bits n 40 17) (bits n 23 17) (bits n 6 17)) (simp f at k))
-    (λ (f : t ≡ false). let z : None ≡ Some w = simp f at k in let z2 : ◌≡◌ {A = ℕ} 0 1 = cc in absurd (omega arith))
+    (λ (f : t ≡ false). let z : None ≡ Some w = simp f at k in absurd (cc))
     (cases_Bool t))
     (cases_Bool (ltb n (2 ^ 32)))
 
@@ -79,8 +79,7 @@ group_back bs w small h =
     (ap group (there (number_at bs 0) w fits k) ∙ group_number bs (eqb-true (length bs) 8 e) small, unpacked_exists (number_at bs 0) w k))
     (λ (e : eqb (length bs) 8 ≡ false).
     let k : None ≡ Some w = simp e at h in
-    let z : ◌≡◌ {A = ℕ} 0 1 = cc in
-    absurd (omega arith))
+    absurd (cc))
     (cases_Bool (eqb (length bs) 8))
 
 -- The bytes pack a row of words, one to each eight of them.

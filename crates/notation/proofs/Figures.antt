@@ -1,20 +1,19 @@
 -- The bytes of what is written of numbers, and the numbers that are read back from them.
-use Rattle.std.proofs.Common.{◌≡◌, ℕ, suc, ◌+◌, ◌^◌, ◌<◌, Bool, true, false, ◌&&◌, ◌||◌, eqb, ltb, leb, List, [], ◌∷◌, length, get_or, ℤ, pos, negsuc, Some, None, decimal, refl, ap, arith, rules}
-use Rattle.std.specs.Char.{is_ascii_digit}
+use Rattle.std.proofs.Common.{◌≡◌, ℕ, suc, ◌+◌, ◌^◌, ◌<◌, Bool, true, false, ◌&&◌, ◌||◌, ltb, leb, List, [], ◌∷◌, length, get_or, ℤ, pos, negsuc, Some, None, decimal, refl, ap, arith, rules}
 use Rattle.std.specs.Fmt.{signed_decimal}
 use Rattle.std.specs.Str.{all_ascii_digits, bytes_eq}
 use Rattle.std.proofs.lemmas.Bool.Decides.{nat_tests}
-use Rattle.std.proofs.lemmas.Bool.{and_parts, and_from, le-leb, lt-ltb}
+use Rattle.std.proofs.lemmas.Bool.{le-leb, lt-ltb}
 use Rattle.std.proofs.lemmas.Str.Parse.{IsNumeralModel, numerals_by_fold}
 use Rattle.std.proofs.lemmas.Fmt.{digits_decimal, digits_value-decimal, length-decimal-le, decimal_nonempty}
 use Rattle.words.specs.Word.{integer}
 use Rattle.groups.specs.Packing.{Exists}
 use Rattle.notation.specs.Scanning.{blank, in_word}
 use Rattle.notation.specs.Names.{place_from}
-use Rattle.notation.specs.Numerals.{digits_after, number_in, positive, negative, integer_in, register_in}
+use Rattle.notation.specs.Numerals.{digits_after, number_in, negative, integer_in, register_in}
 use Rattle.notation.specs.Places.{fits_word}
 
-own : IsNumeralModel (λ ds. all_ascii_digits ds ≡ true) (digits_after 0)
+pub own : IsNumeralModel (λ ds. all_ascii_digits ds ≡ true) (digits_after 0)
 own = numerals_by_fold _ (search rules) digits_after (search rules)
 
 -- A byte of a name or a number: a minus sign, a digit, or something above the colon and the semicolon.
@@ -31,14 +30,9 @@ plain_in_word c h = grind (arith, nat_tests)
 pub plain_no_blank : (c : ℕ) → plain_byte c ≡ true → blank c ≡ false
 plain_no_blank c h = grind (arith, nat_tests)
 
-digit_plain : (c : ℕ) → is_ascii_digit c ≡ true → plain_byte c ≡ true
-digit_plain c h = grind (arith, nat_tests)
-
 digits_plain : (ds : List ℕ) → all_ascii_digits ds ≡ true → plain ds ≡ true
 digits_plain [] h = refl
-digits_plain (c ∷ cs) h =
-    let p = and_parts (is_ascii_digit c) (all_ascii_digits cs) h in
-    and_from (plain_byte c) (plain cs) (digit_plain c p.0) (digits_plain cs p.1)
+digits_plain (c ∷ cs) h = grind (arith, nat_tests, digits_plain cs)
 
 -- The digits of a number that is written.
 pub decimal_plain : (n : ℕ) → n < 2 ^ 64 → plain (decimal n) ≡ true
@@ -54,11 +48,8 @@ number_back n h =
 
 -- Digits are read as an integer, and name no register.
 digits_integer : (ds : List ℕ) (n : ℕ) → all_ascii_digits ds ≡ true → number_in ds ≡ Some n → integer_in ds ≡ Some (pos n)
-digits_integer [] n d h = let z : ◌≡◌ {A = ℕ} 0 1 = cc in absurd (omega arith)
-digits_integer (c ∷ cs) n d h =
-    let p = and_parts (is_ascii_digit c) (all_ascii_digits cs) d in
-    let e : eqb c 45 ≡ false = grind (arith, nat_tests, p.0) in
-    simp e (ap positive h)
+digits_integer [] n d h = absurd (cc)
+digits_integer (c ∷ cs) n d h = grind (arith, nat_tests)
 
 -- The first byte of a number is no letter.
 abbrev pub first_low : List ℕ → Bool
@@ -66,7 +57,7 @@ first_low w = ltb (get_or w 0 0) 65
 
 digits_low : (ds : List ℕ) → all_ascii_digits ds ≡ true → first_low ds ≡ true
 digits_low [] h = refl
-digits_low (c ∷ cs) h = let p = and_parts (is_ascii_digit c) (all_ascii_digits cs) h in grind (arith, nat_tests, p.0)
+digits_low (c ∷ cs) h = grind (arith, nat_tests)
 
 pub natural_back : (n : ℕ) → n < 2 ^ 32 → integer_in (decimal n) ≡ Some (pos n)
 natural_back n h = digits_integer (decimal n) n (digits_decimal own n (omega arith)) (number_back n h)
@@ -96,19 +87,15 @@ lettered (name ∷ names) = leb 65 (get_or name 0 0) && lettered names
 pub low_other : (name w : List ℕ) → leb 65 (get_or name 0 0) ≡ true → first_low w ≡ true → bytes_eq name w ≡ false
 low_other [] w h l = grind (arith, nat_tests)
 low_other (x ∷ xs) [] h l = refl
-low_other (x ∷ xs) (c ∷ cs) h l = let e : eqb x c ≡ false = grind (arith, nat_tests) in simp e
+low_other (x ∷ xs) (c ∷ cs) h l = grind (arith, nat_tests)
 
 pub low_no_place : (i : ℕ) (names : List (List ℕ)) (w : List ℕ) → lettered names ≡ true → first_low w ≡ true → place_from i names w ≡ None
 low_no_place i [] w h l = refl
-low_no_place i (name ∷ names) w h l =
-    let p = and_parts (leb 65 (get_or name 0 0)) (lettered names) h in
-    simp (low_other name w p.0 l, low_no_place (i + 1) names w p.1 l)
+low_no_place i (name ∷ names) w h l = grind (arith, low_other name w, low_no_place (i + 1) names w)
 
 pub low_no_register : (w : List ℕ) → first_low w ≡ true → register_in w ≡ None
 low_no_register [] l = refl
-low_no_register (c ∷ cs) l = let e : eqb c 114 ≡ false = grind (arith, nat_tests) in simp e
+low_no_register (c ∷ cs) l = grind (arith, nat_tests)
 
 pub register_back : (n : ℕ) → n < 16 → register_in (114 ∷ decimal n) ≡ Some n
-register_back n h =
-    let e : leb n 15 ≡ true = le-leb _ _ (omega arith) in
-    simp (number_back n (omega arith), e)
+register_back n h = grind (arith, nat_tests, number_back n)

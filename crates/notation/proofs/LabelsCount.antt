@@ -1,15 +1,16 @@
 -- A label of a text that assembles stands for the number of cells before it.
-use Rattle.std.proofs.Common.{◌≡◌, ℕ, suc, ◌+◌, ◌-◌, ◌^◌, Bool, true, false, cond, not, ◌&&◌, ◌||◌, eqb, ltb, leb, List, [], ◌∷◌, ◌++◌, length, get_or, replicate, is_some, Some, None, codes, Option, sym, refl, ap, ◌∙◌, subst, append_assoc, add-zero, arith, length-append}
+use Rattle.std.proofs.Common.{◌≡◌, ℕ, suc, ◌+◌, ◌-◌, Bool, true, false, cond, not, ◌&&◌, ◌||◌, eqb, ltb, leb, List, [], ◌∷◌, ◌++◌, length, get_or, replicate, is_some, Some, None, codes, Option, sym, refl, ap, ◌∙◌, subst, append_assoc, add-zero, arith, length-append}
 use lib.ListN.{length-replicate}
-use Rattle.std.specs.Char.{is_ascii_digit}
-use Rattle.std.specs.Str.{bytes_eq, all_ascii_digits}
+use Rattle.std.specs.Str.{bytes_eq}
 use Rattle.std.proofs.lemmas.List.{append-nil, length_push}
-use Rattle.std.proofs.lemmas.Bool.{eq-eqb, eqb-true, ne_eqb, leb-true, cond_both, cond-true, and_parts, and_from, not-true}
+use Rattle.std.proofs.lemmas.Bool.{eqb-true, leb-true, cond_both, cond-true, and_parts}
+use Rattle.std.proofs.lemmas.Bool.Decides.{nat_tests}
+use Rattle.std.proofs.lemmas.Slice.Eq.{bytes_eq-Decides}
 use Rattle.words.specs.Word.{Word, zero_word}
 use Rattle.notation.specs.declared.expected.Expected.TheVariants.{End, AddressAhead, Room, OneBudget, OneWord, NewLabel, LabelName}
 use Rattle.notation.specs.Scanning.{lines, skipped, front, behind}
-use Rattle.notation.specs.Numerals.{digits_after, kept, number_in, integer_in, positive, negative, at_most, register_in}
-use Rattle.notation.specs.Labels.{Definition, label_of, unlabelled, has_label, is_name, name_shaped, name_bytes, name_byte, reserved, one_on, moved_to, address_after, defined, defined_from, address_of, or_else}
+use Rattle.notation.specs.Numerals.{number_in, integer_in, register_in}
+use Rattle.notation.specs.Labels.{Definition, label_of, unlabelled, has_label, is_name, name_shaped, reserved, one_on, moved_to, address_after, defined, defined_from, address_of, or_else}
 use Rattle.notation.specs.Places.{Parsed, got, missed, then, taken, steps_at, word_at}
 use Rattle.notation.specs.Statements.{Statement, nothing, budget, register, at, cell, ended, budget_line, at_line, register_or_cell, statement_at}
 use Rattle.notation.specs.Drafts.{Draft, empty_draft, Adding, added, wrong, stated, with_steps, with_register, with_cells, parsed_added, defined_there, labelled, line_added}
@@ -84,16 +85,14 @@ module _ (d : Draft) (left : ℕ) where
       (cond is_budget (budget_line ls (behind rest)) (cond is_at (at_line (behind rest)) (register_or_cell ls number rest)))) left)
   by_word ls rest true is_budget is_at number h = same d.cells
   by_word ls rest false true is_at number h = then_adds (length d.cells) (steps_at ls (behind rest)) budget budget_adds
-  by_word ls rest false false true (Some n) h = let e = h refl in let z : ◌≡◌ {A = ℕ} 0 1 = cc in absurd (omega arith)
+  by_word ls rest false false true (Some n) h = let e = h refl in absurd (cc)
   by_word ls rest false false true None h = at_read (number_in (front (skipped (behind rest)))) (skipped (behind rest))
   by_word ls rest false false false (Some n) h = then_adds (length d.cells) (word_at ls (behind rest)) (register n) (register_adds n)
   by_word ls rest false false false None h = then_adds (one_on (length d.cells)) (word_at ls rest) cell cell_adds
 
 no_register : (word : List ℕ) → bytes_eq (codes "at") word ≡ true → register_in word ≡ None
 no_register [] e = refl
-no_register (c ∷ cs) e =
-    let k = eqb-true 97 c (and_parts (eqb 97 c) (bytes_eq (codes "t") cs) e).0 in
-    ap (λ (t : Bool). cond t (at_most 15 (number_in cs)) None) (ne_eqb c 114 (λ z. omega arith))
+no_register (c ∷ cs) e = grind (arith, nat_tests)
 
 labelled_adds : (ls : List (List ℕ)) (o : Option (List ℕ)) (n : ℕ) (line : List ℕ) (adding : Adding) (cs : List Word) (m : ℕ) → Adds cs m adding →
     Adds cs m (labelled ls o n line adding)
@@ -143,7 +142,7 @@ module _ (all : List (List ℕ)) (bytes : List ℕ) where
   finished_becomes (Some s) d n f h =
       let e : bytes ≡ sheet_bytes s d.hand d.cells = cc in
       record { whole = d; drafts = refl; budget_is = s; steps_are = f; bytes_are = e; later = []; cells_are = sym (append-nil d.cells) }
-  finished_becomes None d n f h = let z : ◌≡◌ {A = ℕ} 0 1 = cc in absurd (omega arith)
+  finished_becomes None d n f h = absurd (cc)
 
   becomes : (rest : List (List ℕ)) (d : Draft) (n : ℕ) → from_line all d n rest ≡ sheet bytes → Becomes d n rest
   becomes [] d n h = finished_becomes d.steps d n refl h
@@ -162,7 +161,7 @@ module _ (all : List (List ℕ)) (bytes : List ℕ) where
               later = g.more ++ next.later;
               cells_are = next.cells_are ∙ ap (λ cs. cs ++ next.later) g.longer ∙ append_assoc d.cells g.more next.later;
             }
-        | wrong e left ↦ λ f g k. let z : ◌≡◌ {A = ℕ} 0 1 = cc in absurd (omega arith)
+        | wrong e left ↦ λ f g k. absurd (cc)
       ]) refl (line_adds all d n line) h
 
   -- Where lines with more behind them assemble, they have a draft, and the others go on from it.
@@ -189,7 +188,7 @@ module _ (all : List (List ℕ)) (bytes : List ℕ) where
               on = subst (λ p. from_line all next.draft p rest ≡ sheet bytes) place next.on;
               many = next.many ∙ ap (address_past before) g.many;
             }
-        | wrong e left ↦ λ f g k. let z : ◌≡◌ {A = ℕ} 0 1 = cc in absurd (omega arith)
+        | wrong e left ↦ λ f g k. absurd (cc)
       ]) refl (line_adds all d n line) h
 
   -- A line that is not wrong and has a label is the first with it, and the label is a name.
@@ -217,19 +216,15 @@ module _ (all : List (List ℕ)) (bytes : List ℕ) where
       let adding : Adding = parsed_added d (statement_at all (unlabelled line)) (length (skipped (unlabelled line))) in
       (elim (line_added all d n line) as (λ r. UnlessWrong P r → goes_on n line rest r ≡ sheet bytes → P) [
         | added d' ↦ λ p k. p
-        | wrong f left ↦ λ p k. let z : ◌≡◌ {A = ℕ} 0 1 = cc in absurd (omega arith)
+        | wrong f left ↦ λ p k. absurd (cc)
       ]) (subst (λ o. UnlessWrong P (labelled all o n line adding)) (sym e) (label_holds name n line adding)) h
-
-same_self : (bs : List ℕ) → bytes_eq bs bs ≡ true
-same_self [] = refl
-same_self (c ∷ cs) = and_from (eqb c c) (bytes_eq cs cs) (eq-eqb c c refl) (same_self cs)
 
 -- The first line with a label, where that is the line after the lines before it, begins at the address past those.
 first_there : (before after : List (List ℕ)) (line name : List ℕ) (n a : ℕ) → label_of line ≡ Some name →
     defined_there (defined_from n a (before ++ (line ∷ after)) name) (n + length before) ≡ true →
     defined_from n a (before ++ (line ∷ after)) name ≡ Some (record { line = n + length before; address = address_past before a })
 first_there [] after line name n a e h =
-    let here : has_label (label_of line) name ≡ true = ap (λ o. has_label o name) e ∙ same_self name in
+    let here : has_label (label_of line) name ≡ true = ap (λ o. has_label o name) e ∙ (bytes_eq-Decides name name).1 refl in
     cond-true _ _ _ here ∙ ap (λ k. Some (record { line = k; address = a })) (sym (add-zero n))
 first_there (other ∷ before) after line name n a e h =
     let place : (n + 1) + length before ≡ n + suc (length before) = omega arith in
@@ -244,19 +239,9 @@ first_there (other ∷ before) after line name n a e h =
     ]) h
 
 -- A name is no integer.
-not_minus : (c : ℕ) → name_byte c ≡ true → eqb c 45 ≡ false
-not_minus c e = ne_eqb c 45 (λ m. let k : name_byte 45 ≡ true = ap name_byte (sym m) ∙ e in let z : ◌≡◌ {A = ℕ} 0 1 = cc in omega arith)
-
 no_integer : (name : List ℕ) → name_shaped name ≡ true → integer_in name ≡ None
 no_integer [] e = refl
-no_integer (c ∷ cs) e =
-    let k = and_parts (not (is_ascii_digit c)) (name_bytes (c ∷ cs)) e in
-    let no_digit = not-true (is_ascii_digit c) k.0 in
-    let byte = (and_parts (name_byte c) (name_bytes cs) k.1).0 in
-    ap (λ (t : Bool). cond t (negative (number_in cs)) (positive (number_in (c ∷ cs)))) (not_minus c byte)
-    ∙ ap (λ (t : Bool).
-    positive (cond ((t && all_ascii_digits cs) && (leb 1 (length (c ∷ cs)) && leb (length (c ∷ cs)) 10))
-    (kept (ltb (digits_after 0 (c ∷ cs)) (2 ^ 32)) (digits_after 0 (c ∷ cs))) None)) no_digit
+no_integer (c ∷ cs) e = grind (arith, nat_tests)
 
 abbrev line_of : Option Definition → ℕ
 line_of (Some d) = d.line

@@ -2,6 +2,7 @@
 use Rattle.std.proofs.Common.{◌≡◌, ℕ, zero, suc, ◌+◌, ◌-◌, ◌*◌, ◌/◌, ◌^◌, ◌<◌, ◌≤◌, Bool, true, false, cond, eqb, ltb, leb, List, [], ◌∷◌, ◌++◌, length, get_or, take, drop, set, replicate, pos, negsuc, Some, None, codes, decimal, Option, sym, refl, ap, ◌∙◌, subst, append_assoc, arith}
 use Rattle.std.specs.Str.{bytes_eq}
 use Rattle.std.proofs.lemmas.List.{append-nil, get_or_at, set_at, length_push}
+use Rattle.std.proofs.lemmas.Bool.Decides.{nat_tests}
 use Rattle.std.proofs.lemmas.Bool.{lt-ltb, ne_eqb, leb-true, cond_both}
 use Rattle.words.specs.Word.{Word, integer, capability, zero_word, is_zero}
 use Rattle.groups.specs.Packing.{Exists}
@@ -26,7 +27,7 @@ clear [] = true
 clear (c ∷ cs) = cond (eqb c 10) false (clear cs)
 
 cleared : (t r : Bool) → cond t false r ≡ true → (t ≡ false) × (r ≡ true)
-cleared true r h = let z : ◌≡◌ {A = ℕ} 0 1 = cc in absurd (omega arith)
+cleared true r h = absurd (cc)
 cleared false r h = (refl, h)
 
 by_test : (bytes : List ℕ) → clear bytes ≡ true → NoFeed bytes
@@ -55,15 +56,11 @@ all_append (line ∷ rest) ms h k = (h.0, all_append rest ms h.1 k)
 -- No line of a listing has a line feed in it.
 count_small : (k : ℕ) (marks : List ℕ) → count_from k marks ≤ length marks
 count_small k [] = omega arith
-count_small k (m ∷ ms) =
-    let more = count_small k ms in
-    cond_both (leb k m) (suc (count_from k ms)) (count_from k ms) (λ n. n ≤ suc (length ms)) (λ e. omega arith) (λ e. omega arith)
+count_small k (m ∷ ms) = grind (arith, nat_tests, count_small k ms)
 
 signs_clear : (marks : List ℕ) → NoFeed (mark_signs marks)
 signs_clear [] = tt
-signs_clear (m ∷ ms) =
-    let P : ℕ → Type 0 = λ s. eqb s 10 ≡ false in
-    (cond_both (leb 2 m) 35 (cond (eqb m 1) 43 46) P (λ e. refl) (λ e. cond_both (eqb m 1) 43 46 P (λ f. refl) (λ f. refl)), signs_clear ms)
+signs_clear (m ∷ ms) = (grind (arith, nat_tests), signs_clear ms)
 
 name_clear : (m : ℕ) → NoFeed (mark_name m)
 name_clear m =
@@ -172,8 +169,8 @@ draft s h g cs = record { steps = s; hand = h; given = g; cells = cs }
 
 zero_is : (w : Word) → is_zero w ≡ true → w ≡ zero_word
 zero_is (integer (pos n)) e = let z : n ≡ 0 = omega (arith, leb-true n 0 e) in ap (λ k. integer (pos k)) z
-zero_is (integer (negsuc n)) e = let z : ◌≡◌ {A = ℕ} 0 1 = cc in absurd (omega arith)
-zero_is (capability c) e = let z : ◌≡◌ {A = ℕ} 0 1 = cc in absurd (omega arith)
+zero_is (integer (negsuc n)) e = absurd (cc)
+zero_is (capability c) e = absurd (cc)
 
 -- The blanks before a comment, and the comment.
 spaces_skipped : (n : ℕ) (text : List ℕ) → skipped (replicate n 32 ++ (59 ∷ text)) ≡ 59 ∷ text

@@ -1,23 +1,17 @@
--- Looking a word up in a table of names, place by place.
-use Rattle.std.proofs.Common.{◌≡◌, ℕ, ◌+◌, ◌<◌, ◌≤◌, Bool, true, false, cond, List, [], length, drop, Some, None, Decides, refl, ◌∙◌, add-one, drop-cons, rules}
+-- Looking a word up in a table of names.
+use Rattle.std.proofs.Common.{◌≡◌, ℕ, ◌+◌, cond, List, [], ◌∷◌, map, Some, Option, Bor, refl, ap, ◌∙◌}
 use Rattle.std.specs.Str.{bytes_eq}
-use Rattle.std.proofs.lemmas.Slice.Eq.{bytes_eq-Decides}
-use Rattle.std.proofs.lemmas.List.{drop_all}
-use Rattle.notation.specs.Names.{named, place_from}
+use Rattle.std.specs.List.{position, position_from}
+use Rattle.std.proofs.lemmas.Iterator.Adapters.{position_from-zero}
+use Rattle.notation.specs.Names.{place_of, place_from}
 
--- A test that decides whether two texts are the same is `bytes_eq`.
-pub same_by : (xs ys : List ℕ) (r : Bool) → Decides r (xs ≡ ys) → r ≡ bytes_eq xs ys
-same_by xs ys r h = search (rules, bytes_eq-Decides)
+place_from_position : (i : ℕ) (table : List (Bor (List ℕ))) (word : List ℕ)
+    → position_from (λ name. bytes_eq name.now word) i table ≡ place_from i (map (λ (name : Bor (List ℕ)). name.now) table) word
+place_from_position i [] word = refl
+place_from_position i (name ∷ names) word = ap (cond (bytes_eq name.now word) (Some i)) (place_from_position (i + 1) names word)
 
-module _ (names : List (List ℕ)) (i : ℕ) (word : List ℕ) where
-  split : i < length names → place_from i (drop i names) word ≡ cond (bytes_eq (named names i) word) (Some i) (place_from (i + 1) (drop (i + 1) names) word)
-  split h = rw (drop-cons names i []) (rw add-one refl)
-
-  pub found : i < length names → bytes_eq (named names i) word ≡ true → place_from i (drop i names) word ≡ Some i
-  found h e = split h ∙ simp e
-
-  pub passed : i < length names → bytes_eq (named names i) word ≡ false → place_from i (drop i names) word ≡ place_from (i + 1) (drop (i + 1) names) word
-  passed h e = split h ∙ simp e
-
-  pub none_left : length names ≤ i → place_from i (drop i names) word ≡ None
-  none_left h = rw drop_all refl
+-- The first name of the table that is the word stands at the place that the definition has.
+pub place_of_position : (table : List (Bor (List ℕ))) (names : List (List ℕ)) (word : List ℕ) (found : Option ℕ)
+    → map (λ (name : Bor (List ℕ)). name.now) table ≡ names → found ≡ position (λ name. bytes_eq name.now word) table → found ≡ place_of names word
+place_of_position table names word found t f =
+    f ∙ position_from-zero (λ name. bytes_eq name.now word) table ∙ place_from_position 0 table word ∙ ap (λ all. place_of all word) t

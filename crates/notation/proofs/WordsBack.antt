@@ -3,7 +3,7 @@ use Rattle.std.proofs.Common.{◌≡◌, ℕ, zero, suc, ◌+◌, ◌-◌, ◌^�
 use Rattle.std.specs.Fmt.{signed_decimal}
 use Rattle.std.specs.Str.{bytes_eq}
 use Rattle.std.proofs.lemmas.Bool.Decides.{nat_tests}
-use Rattle.std.proofs.lemmas.Bool.{and_parts, and_from, le-leb, leb-true, not-true}
+use Rattle.std.proofs.lemmas.Bool.{and_parts, le-leb, leb-true, not-true}
 use Rattle.std.proofs.lemmas.Fmt.{decimal_nonempty}
 use Rattle.words.specs.declared.permission.Permission.{Permission}
 use Rattle.words.specs.declared.permission.Permission.TheVariants.{O, RO, RW, RWL, RX, E, RWX, RWLX}
@@ -25,7 +25,7 @@ use Rattle.instructions.specs.Packing.{Packing, packed, packing_of, packing_part
 use Rattle.instructions.proofs.RoundTrip.{exactly}
 use Rattle.notation.specs.declared.expected.Expected.{Expected}
 use Rattle.notation.specs.declared.expected.Expected.TheVariants.{Steps, Address, Register as register_expected, Operand as operand_expected, Locality as locality_expected}
-use Rattle.notation.specs.Scanning.{blank, in_word, skipped, front, behind}
+use Rattle.notation.specs.Scanning.{blank, skipped, front, behind}
 use Rattle.notation.specs.Names.{instruction_names, permission_names, locality_names, named, place_of, has_d, has_a, has_b, register_a}
 use Rattle.notation.specs.Numerals.{register_in}
 use Rattle.notation.specs.Labels.{colon_ends, value_in}
@@ -41,17 +41,13 @@ Ends (c ∷ cs) = blank c ≡ true
 -- A word of plain bytes at the front, before what may follow it.
 front_word : (w tail : List ℕ) → plain w ≡ true → Ends tail → front (w ++ tail) ≡ w
 front_word [] [] p e = refl
-front_word [] (c ∷ cs) p e = let n : in_word c ≡ false = simp e in simp n
-front_word (c ∷ cs) tail p e =
-    let q = and_parts (plain_byte c) (plain cs) p in
-    simp (plain_in_word c q.0, front_word cs tail q.1 e)
+front_word [] (c ∷ cs) p e = grind arith
+front_word (c ∷ cs) tail p e = grind (arith, plain_in_word c, front_word cs tail)
 
 behind_word : (w tail : List ℕ) → plain w ≡ true → Ends tail → behind (w ++ tail) ≡ tail
 behind_word [] [] p e = refl
-behind_word [] (c ∷ cs) p e = let n : in_word c ≡ false = simp e in simp n
-behind_word (c ∷ cs) tail p e =
-    let q = and_parts (plain_byte c) (plain cs) p in
-    simp (plain_in_word c q.0, behind_word cs tail q.1 e)
+behind_word [] (c ∷ cs) p e = grind arith
+behind_word (c ∷ cs) tail p e = grind (arith, plain_in_word c, behind_word cs tail)
 
 -- Plain bytes, and one at least.
 abbrev solid : List ℕ → Bool
@@ -61,10 +57,8 @@ solid_plain : (w : List ℕ) → solid w ≡ true → plain w ≡ true
 solid_plain w s = (and_parts (plain w) (leb 1 (length w)) s).0
 
 skipped_word : (w tail : List ℕ) → solid w ≡ true → skipped (w ++ tail) ≡ w ++ tail
-skipped_word [] tail s = let z : ◌≡◌ {A = ℕ} 0 1 = cc in absurd (omega arith)
-skipped_word (c ∷ cs) tail s =
-    let q = and_parts (plain_byte c) (plain cs) (solid_plain (c ∷ cs) s) in
-    simp (plain_no_blank c q.0)
+skipped_word [] tail s = absurd (cc)
+skipped_word (c ∷ cs) tail s = grind (arith, plain_no_blank c)
 
 -- What a word says is taken from the front of the line.
 taken_word : {A : Type 0} (says : List ℕ → Option A) (x : A) (e : Expected) (w tail : List ℕ) → solid w ≡ true → Ends tail → says w ≡ Some x
@@ -75,15 +69,14 @@ taken_word says x e w tail s t h =
 
 -- Numbers and registers are words.
 decimal_solid : (n : ℕ) → n < 2 ^ 64 → solid (decimal n) ≡ true
-decimal_solid n h = and_from (plain (decimal n)) (leb 1 (length (decimal n))) (decimal_plain n h) (le-leb _ _ (decimal_nonempty n h))
+decimal_solid n h = grind (arith, nat_tests, decimal_plain n h, decimal_nonempty n h)
 
 signed_solid : (z : ℤ) → fits_word z ≡ true → solid (signed_decimal z) ≡ true
 signed_solid (pos n) h = decimal_solid n (grind (arith, nat_tests))
-signed_solid (negsuc n) h = and_from (plain (signed_decimal (negsuc n))) (leb 1 (length (signed_decimal (negsuc n)))) (signed_plain (negsuc n) h) (le-leb _ _ (omega arith))
+signed_solid (negsuc n) h = grind (arith, nat_tests, signed_plain (negsuc n) h)
 
 register_solid : (n : ℕ) → n < 16 → solid (register_text n) ≡ true
-register_solid n h =
-    and_from (plain (register_text n)) (leb 1 (length (register_text n))) (decimal_plain n (omega arith)) (le-leb _ _ (omega arith))
+register_solid n h = grind (arith, nat_tests, decimal_plain n)
 
 -- A number up to a limit, behind a space.
 value_back : (ls : List (List ℕ)) (limit n : ℕ) → n < 2 ^ 32 → n ≤ limit → natural limit (value_in ls (decimal n)) ≡ Some n
@@ -369,14 +362,14 @@ pub record Begins (bytes : List ℕ) : Type 0 where
 
 no_colon_at : (w : List ℕ) (k : ℕ) → plain w ≡ true → eqb (get_or w k 0) 58 ≡ false
 no_colon_at [] k p = refl
-no_colon_at (c ∷ cs) zero p = let q = and_parts (plain_byte c) (plain cs) p in grind (arith, nat_tests, q.0)
+no_colon_at (c ∷ cs) zero p = grind (arith, nat_tests)
 no_colon_at (c ∷ cs) (suc k) p = no_colon_at cs k (and_parts (plain_byte c) (plain cs) p).1
 
 no_colon : (w : List ℕ) → plain w ≡ true → colon_ends w ≡ false
 no_colon w p = no_colon_at w (length w - 1) p
 
 none_from : {A : Type 0} (o : Option A) → not (is_some o) ≡ true → o ≡ None
-none_from (Some x) h = let z : ◌≡◌ {A = ℕ} 0 1 = cc in absurd (omega arith)
+none_from (Some x) h = absurd (cc)
 none_from None h = refl
 
 begins : (w tail : List ℕ) → leads w ≡ true → Ends tail → Begins (w ++ tail)
@@ -422,8 +415,7 @@ no_feed_append (x ∷ xs) ys p q = (p.0, no_feed_append xs ys p.1 q)
 no_feed_plain : (w : List ℕ) → plain w ≡ true → NoFeed w
 no_feed_plain [] p = tt
 no_feed_plain (c ∷ cs) p =
-    let q = and_parts (plain_byte c) (plain cs) p in
-    (grind (arith, nat_tests, q.0), no_feed_plain cs q.1)
+    (grind (arith, nat_tests), no_feed_plain cs (and_parts (plain_byte c) (plain cs) p).1)
 
 no_feed_solid : (w : List ℕ) → solid w ≡ true → NoFeed w
 no_feed_solid w s = no_feed_plain w (solid_plain w s)

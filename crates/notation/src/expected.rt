@@ -1,5 +1,5 @@
 // What a text should have at a place where it has something else.
-#[derive(Clone, Copy)]
+#[derive(Clone, Copy, Debug, PartialEq, Eq)]
 pub enum Expected {
     // a number of steps
     Steps,

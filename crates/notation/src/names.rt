@@ -1,19 +1,26 @@
-ghost use Rattle.std.specs.Prelude.{◌≡◌, ℕ, List, ◌∷◌, length};
+ghost use Rattle.std.specs.Prelude.{◌≡◌, ℕ, List, ◌∷◌, length, map};
 ghost use Rattle.notation.specs.Names.{instruction_names, permission_names, locality_names, named, place_of};
-
-use super::bytes::same_bytes;
 
 // A table of names, which writing and reading share.
 pub trait Names {
     // the names, in their order
     ghost names: { List (List ℕ) };
 
+    fn table() -> &'static [&'static str]
+        ensures { map (λ name. name.now) result.now ≡ names };
+
     fn count() -> usize
-        ensures { result ≡ length names };
+        ensures { result ≡ length names }
+    {
+        Self::table().len()
+    }
 
     // The name at a place; empty where there is none.
     fn name(place: usize) -> &'static str
-        ensures { result.now ≡ named names place };
+        ensures { result.now ≡ named names place }
+    {
+        Self::table().get(place).copied().unwrap_or("")
+    }
 }
 
 // The names of the instructions, from opcode 1 on.
@@ -22,34 +29,11 @@ pub struct Mnemonics {}
 impl Names for Mnemonics {
     ghost names = { instruction_names };
 
-    fn count() -> usize {
-        20
-    }
-
-    fn name(place: usize) -> &'static str {
-        match place {
-            0 => "fail",
-            1 => "halt",
-            2 => "jmp",
-            3 => "jnz",
-            4 => "move",
-            5 => "load",
-            6 => "store",
-            7 => "plus",
-            8 => "minus",
-            9 => "lt",
-            10 => "lea",
-            11 => "restrict",
-            12 => "subseg",
-            13 => "isptr",
-            14 => "getp",
-            15 => "getl",
-            16 => "getb",
-            17 => "gete",
-            18 => "geta",
-            19 => "quot",
-            _ => "",
-        }
+    fn table() -> &'static [&'static str] {
+        &[
+            "fail", "halt", "jmp", "jnz", "move", "load", "store", "plus", "minus", "lt", "lea",
+            "restrict", "subseg", "isptr", "getp", "getl", "getb", "gete", "geta", "quot",
+        ]
     }
 }
 
@@ -59,22 +43,8 @@ pub struct PermissionNames {}
 impl Names for PermissionNames {
     ghost names = { permission_names };
 
-    fn count() -> usize {
-        8
-    }
-
-    fn name(place: usize) -> &'static str {
-        match place {
-            0 => "O",
-            1 => "RO",
-            2 => "RW",
-            3 => "RWL",
-            4 => "RX",
-            5 => "E",
-            6 => "RWX",
-            7 => "RWLX",
-            _ => "",
-        }
+    fn table() -> &'static [&'static str] {
+        &["O", "RO", "RW", "RWL", "RX", "E", "RWX", "RWLX"]
     }
 }
 
@@ -84,16 +54,8 @@ pub struct LocalityNames {}
 impl Names for LocalityNames {
     ghost names = { locality_names };
 
-    fn count() -> usize {
-        2
-    }
-
-    fn name(place: usize) -> &'static str {
-        match place {
-            0 => "Global",
-            1 => "Local",
-            _ => "",
-        }
+    fn table() -> &'static [&'static str] {
+        &["Global", "Local"]
     }
 }
 
@@ -101,10 +63,5 @@ impl Names for LocalityNames {
 pub fn place_of<N: Names>(word: &[u8]) -> Option<usize>
     ensures { result ≡ place_of N.names word.now }
 {
-    for place in 0..N::count() {
-        if same_bytes(N::name(place).as_bytes(), word) {
-            return Some(place);
-        }
-    }
-    None
+    N::table().iter().position(|name| name.as_bytes() == word)
 }

@@ -1,69 +1,66 @@
--- Scans of a line and of a text, byte by byte.
-use Rattle.std.proofs.Common.{◌≡◌, ℕ, zero, suc, ◌+◌, ◌<◌, ◌≤◌, true, false, eqb, List, [], ◌∷◌, ◌++◌, length, get_or, take, drop, sym, refl, ap, ◌∙◌, append_assoc, append-nil, arith}
-use Rattle.std.proofs.lemmas.List.{drop_all, drop_more, take_more}
+-- Scans of a line and of a text, by the length of what they pass.
+use Rattle.std.proofs.Common.{◌≡◌, ℕ, zero, suc, ◌+◌, ◌-◌, ◌<◌, ◌≤◌, Bool, true, false, cond, not, eqb, List, [], ◌∷◌, length, get_or, take, drop, Some, None, refl, ap, ◌∙◌, add-one, arith, length-drop}
+use Rattle.std.proofs.lemmas.List.{take_all}
+use Rattle.std.specs.List.{prefix_len, position_or_len, position, take_while}
+use Rattle.std.proofs.lemmas.Bool.{not-true}
+use Rattle.std.proofs.lemmas.Grind.{common_steps}
+use Rattle.std.proofs.lemmas.List.Quantifiers.{position-Some}
+use Rattle.std.proofs.lemmas.List.Recursion.{same_from_clauses}
+use Rattle.std.proofs.lemmas.List.Sums.{take_while-cons, prefix_len_passes}
 use Rattle.notation.specs.Scanning.{lines, onto, blank, in_word, skipped, front, behind}
 
--- Blanks at the front are skipped one by one.
-pub skip_one : (xs : List ℕ) → 0 < length xs → blank (get_or xs 0 0) ≡ true → skipped (drop 1 xs) ≡ skipped xs
-skip_one [] h b = absurd (omega arith)
-skip_one (c ∷ cs) h b = sym (simp b)
+-- What leaves out the elements at the front that pass a test, one by one.
+dropped : (p : ℕ → Bool) (F : List ℕ → List ℕ) → F [] ≡ [] → ((x : ℕ) (xs : List ℕ) → F (x ∷ xs) ≡ cond (p x) (F xs) (x ∷ xs)) → (xs : List ℕ) → F xs ≡ drop (prefix_len p xs) xs
+dropped p F none step [] = none
+dropped p F none step (x ∷ xs) = step x xs ∙ by (p x) (dropped p F none step xs)
+  where
+    by : (b : Bool) → F xs ≡ drop (prefix_len p xs) xs → cond b (F xs) (x ∷ xs) ≡ drop (cond b (1 + prefix_len p xs) 0) (x ∷ xs)
+    by true h = grind (arith, common_steps)
+    by false h = refl
 
-pub skip_none : (xs : List ℕ) → 0 < length xs → blank (get_or xs 0 0) ≡ false → skipped xs ≡ xs
-skip_none [] h b = absurd (omega arith)
-skip_none (c ∷ cs) h b = simp b
+pub skipped_drop : (xs : List ℕ) → skipped xs ≡ drop (prefix_len blank xs) xs
+skipped_drop = dropped blank skipped refl (λ _ _. refl)
 
-pub skip_empty : (xs : List ℕ) → length xs ≡ 0 → skipped xs ≡ xs
-skip_empty [] h = refl
-skip_empty (c ∷ cs) h = absurd (omega arith)
+pub behind_drop : (xs : List ℕ) → behind xs ≡ drop (prefix_len in_word xs) xs
+behind_drop = dropped in_word behind refl (λ _ _. refl)
 
--- The first n bytes are in the word.
-pub record WordSoFar (line : List ℕ) (n : ℕ) : Type 0 where
-  pub within : n ≤ length line
-  pub word : take n line ++ front (drop n line) ≡ front line
-  pub after : behind (drop n line) ≡ behind line
-
-pub word_begun : (line : List ℕ) → WordSoFar line 0
-word_begun line = record { within = omega arith; word = refl; after = refl }
-
-pub word_more : (line : List ℕ) (n : ℕ) → n < length line → in_word (get_or line n 0) ≡ true → WordSoFar line n → WordSoFar line (n + 1)
-word_more line n h b w =
-    let cut = drop_more line n 0 h in
-    let one : front (drop n line) ≡ get_or line n 0 ∷ front (drop (n + 1) line) = ap front cut ∙ simp b in
-    let rest : behind (drop n line) ≡ behind (drop (n + 1) line) = ap behind cut ∙ simp b in
-    record {
-      within = omega arith;
-      word = ap (λ xs. xs ++ front (drop (n + 1) line)) (take_more line n 0 h) ∙ append_assoc (take n line) (get_or line n 0 ∷ []) (front (drop (n + 1) line)) ∙ ap (λ xs. take n line ++ xs) (sym one) ∙ w.word;
-      after = sym rest ∙ w.after;
-    }
-
--- The word ends with the line, or before a byte that is in no word.
-word_ends : (line rest : List ℕ) (n : ℕ) → rest ≡ drop n line → front rest ≡ [] → behind rest ≡ rest → WordSoFar line n → (take n line ≡ front line) × (drop n line ≡ behind line)
-word_ends line rest n is f b w = (
-  sym (append-nil _) ∙ ap (λ xs. take n line ++ xs) (sym (ap front (sym is) ∙ f)) ∙ w.word,
-  sym is ∙ sym b ∙ ap behind is ∙ w.after,
-)
-
-pub word_at_end : (line : List ℕ) (n : ℕ) → length line ≤ n → WordSoFar line n → (take n line ≡ front line) × (drop n line ≡ behind line)
-word_at_end line n h w = word_ends line [] n (sym (drop_all n line h)) refl refl w
-
-pub word_stops : (line : List ℕ) (n : ℕ) → n < length line → in_word (get_or line n 0) ≡ false → WordSoFar line n → (take n line ≡ front line) × (drop n line ≡ behind line)
-word_stops line n h b w = word_ends line (get_or line n 0 ∷ drop (n + 1) line) n (sym (drop_more line n 0 h)) (simp b) (simp b) w
+pub front_take : (xs : List ℕ) → front xs ≡ take (prefix_len in_word xs) xs
+front_take = same_from_clauses front (take_while in_word) (λ x front. cond (in_word x) (x ∷ front) []) refl (λ _ _. refl) (take_while-cons in_word)
 
 -- The first line: what stands before the first line feed.
-pub line_cut : (text : List ℕ) (n : ℕ) → n < length text → ((i : ℕ) → i < n → eqb (get_or text i 0) 10 ≡ false) → eqb (get_or text n 0) 10 ≡ true → lines text ≡ take n text ∷ lines (drop 1 (drop n text))
+line_cut : (text : List ℕ) (n : ℕ) → n < length text → ((i : ℕ) → i < n → eqb (get_or text i 0) 10 ≡ false) → eqb (get_or text n 0) 10 ≡ true → lines text ≡ take n text ∷ lines (drop (suc n) text)
 line_cut [] n h before feed = absurd (omega arith)
 line_cut (c ∷ cs) zero h before feed = simp feed
 line_cut (c ∷ cs) (suc n) h before feed =
     let here : eqb c 10 ≡ false = before 0 (omega arith) in
     simp here (ap (onto c) (line_cut cs n (omega arith) (λ i lt. before (suc i) (omega arith)) feed))
 
-pub line_last : (text : List ℕ) → 0 < length text → ((i : ℕ) → i < length text → eqb (get_or text i 0) 10 ≡ false) → lines text ≡ text ∷ []
+line_last : (text : List ℕ) → 0 < length text → ((i : ℕ) → i < length text → eqb (get_or text i 0) 10 ≡ false) → lines text ≡ text ∷ []
 line_last [] h before = absurd (omega arith)
 line_last (c ∷ []) h before = let here : eqb c 10 ≡ false = before 0 (omega arith) in simp here
 line_last (c ∷ (d ∷ ds)) h before =
     let here : eqb c 10 ≡ false = before 0 (omega arith) in
     simp here (ap (onto c) (line_last (d ∷ ds) (omega arith) (λ i lt. before (suc i) (omega arith))))
 
-pub empty_list : (xs : List ℕ) → length xs ≡ 0 → xs ≡ []
-empty_list [] h = refl
-empty_list (c ∷ cs) h = absurd (omega arith)
+pub line_to_feed : (text : List ℕ) (n : ℕ) → position (λ c. eqb c 10) text ≡ Some n
+    → let rest = take (length text - (n + 1)) (drop (n + 1) text) in (lines text ≡ take n text ∷ lines rest) × (length rest < length text)
+line_to_feed text n h =
+    let at = position-Some (λ c. eqb c 10) text n 0 h in
+    let inside : n < length text = at.0 in
+    let all : take (length text - (n + 1)) (drop (n + 1) text) ≡ drop (suc n) text
+    = take_all _ _ (omega (arith, length-drop (n + 1) text)) ∙ ap (λ k. drop k text) (add-one n) in
+    rw all (line_cut text n inside at.2 at.1, omega (arith, length-drop (suc n) text))
+
+pub only_line : (text : List ℕ) → 0 < length text → position (λ c. eqb c 10) text ≡ None → lines text ≡ text ∷ []
+only_line text h none =
+    let far : length text ≤ position_or_len (λ c. eqb c 10) text = grind (arith, common_steps) in
+    line_last text h (λ i lt. let l : i < position_or_len (λ c. eqb c 10) text = omega arith in not-true _ (prefix_len_passes (λ c. not (eqb c 10)) text i 0 l))
+
+onto_few : (c : ℕ) (ls : List (List ℕ)) → length (onto c ls) ≤ 1 + length ls
+onto_few c [] = omega arith
+onto_few c (l ∷ ls) = omega arith
+
+-- A text has no more lines than bytes.
+pub lines_few : (text : List ℕ) → length (lines text) ≤ length text
+lines_few [] = omega arith
+lines_few (c ∷ cs) = grind (arith, common_steps, lines_few cs, onto_few c (lines cs))

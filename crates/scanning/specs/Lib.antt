@@ -1,3 +1,2 @@
 pub mod Firsts
-pub mod Digits
 pub mod Definitions

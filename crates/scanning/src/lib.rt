@@ -7,6 +7,6 @@ mod names;
 mod numerals;
 
 pub use labels::{Definition, find_label, label, unlabelled, value};
-pub use lines::{FirstLine, FirstWord, first_line, first_word};
+pub use lines::{FirstLine, FirstWord, Lines, first_line, first_word};
 pub use names::is_name;
 pub use numerals::{integer, number, register};

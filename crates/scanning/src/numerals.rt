@@ -1,51 +1,33 @@
-ghost use Rattle.std.specs.Prelude.{◌≡◌, ◌≤◌, length};
+ghost use Rattle.std.specs.Prelude.{◌≡◌};
+ghost use Rattle.std.specs.Str.{all_ascii_digits};
 ghost use Rattle.notation.specs.Numerals.{number_in, integer_in, register_in};
-ghost use Rattle.scanning.specs.Digits.{digits_in};
 
-// The number that up to ten digits write; none where a byte is no digit.
-fn digits(word: &[u8]) -> Option<u64>
-    requires { length word.now ≤ 10 }
-    ensures { result ≡ digits_in word.now }
+use std::str;
+
+// Whether every byte is a decimal digit.
+fn is_digits(word: &[u8]) -> bool
+    ensures { result ≡ all_ascii_digits word.now }
 {
-    let mut number = 0u64;
-    for byte in word {
-        if !byte.is_ascii_digit() {
-            return None;
-        }
-        number = number * 10 + u64::from(*byte - b'0');
-    }
-    Some(number)
+    word.iter().all(|byte| byte.is_ascii_digit())
 }
 
 // The number that a word of one to ten digits writes, if it is below 2 ^ 32.
 pub fn number(word: &[u8]) -> Option<u32>
     ensures { result ≡ number_in word.now }
 {
-    if word.is_empty() || word.len() > 10 {
+    if word.len() > 10 || !is_digits(word) {
         return None;
     }
-    match digits(word) {
-        Some(number) if number < 1 << 32 => Some(number as u32),
-        _ => None,
-    }
+    str::from_utf8(word).ok()?.parse().ok()
 }
 
 // The same, after a minus sign if there is one.
 pub fn integer(word: &[u8]) -> Option<i64>
     ensures { result ≡ integer_in word.now }
 {
-    if word.is_empty() {
-        return None;
-    }
-    if word[0] != b'-' {
-        return match number(word) {
-            Some(magnitude) => Some(i64::from(magnitude)),
-            None => None,
-        };
-    }
-    match number(word.split_at(1).1) {
-        Some(magnitude) => Some(-i64::from(magnitude)),
-        None => None,
+    match word.strip_prefix(b"-") {
+        Some(digits) => number(digits).map(|magnitude| -i64::from(magnitude)),
+        None => number(word).map(i64::from),
     }
 }
 
@@ -53,11 +35,5 @@ pub fn integer(word: &[u8]) -> Option<i64>
 pub fn register(word: &[u8]) -> Option<u32>
     ensures { result ≡ register_in word.now }
 {
-    if word.is_empty() || word[0] != b'r' {
-        return None;
-    }
-    match number(word.split_at(1).1) {
-        Some(number) if number <= 15 => Some(number),
-        _ => None,
-    }
+    number(word.strip_prefix(b"r")?).filter(|number| *number <= 15)
 }

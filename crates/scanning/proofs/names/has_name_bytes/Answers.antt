@@ -1,12 +1,12 @@
-use Rattle.std.proofs.Common.{sym, ◌∙◌}
-use Rattle.scanning.proofs.Naming.{byte_passes, byte_fails, bytes_done}
+use Rattle.std.proofs.Common.{◌&&◌, ◌∙◌, refl, rules, tests}
+use Rattle.std.specs.List.{list_all}
+use Rattle.std.proofs.lemmas.Iterator.{YieldsList-from_slice}
+use Rattle.std.proofs.lemmas.Iterator.Search.{all_from_yields_List}
+use Rattle.std.proofs.lemmas.List.Recursion.{same_from_clauses}
+use Rattle.notation.specs.Labels.{name_byte, name_bytes}
 use Rattle.scanning.proofs.names.has_name_bytes.Goals as goal
 
-pub returns-then-not-is_name_byte : goal.returns-then-not-is_name_byte
-returns-then-not-is_name_byte c = sym (c.loop-byte.invariant ∙ byte_fails _ _ c.loop-byte-test.true (sym c.if-not-is_name_byte.ensures))
-
-pub loop-byte-preserved : goal.loop-byte-preserved
-loop-byte-preserved c = c.loop-byte.invariant ∙ byte_passes _ _ c.loop-byte-test.true (sym c.if-not-is_name_byte.ensures)
-
 pub returns : goal.returns
-returns c = sym (c.loop-byte.invariant ∙ bytes_done _ _ c.loop-byte-test.false)
+returns c =
+    all_from_yields_List name_byte _ _ _ c.all.ensures.ran (YieldsList-from_slice c.args.word.now cc) (λ x b q k. search (rules, tests))
+    ∙ same_from_clauses (list_all name_byte) name_bytes (λ x all. name_byte x && all) refl (λ _ _. refl) (λ _ _. refl) c.args.word.now
