@@ -5,7 +5,7 @@ ghost use Rattle.std.proofs.Common.{rules};
 use super::order::Order;
 
 // The addresses from `base` up to and without `end`; none where the base is not below the end.
-#[derive(Clone, Copy)]
+#[derive(Clone, Copy, Debug, PartialEq, Eq)]
 pub struct Bounds {
     pub base: u32,
     pub end: u32,

@@ -8,7 +8,7 @@ mod parts;
 
 // What its holder may reach: the addresses from `base` up to and without `end`. The cursor is the address that it points at. A base above the end is
 // allowed, and covers nothing.
-#[derive(Clone, Copy)]
+#[derive(Clone, Copy, Debug, PartialEq, Eq)]
 pub struct Capability {
     base: u32,
     end: u32,

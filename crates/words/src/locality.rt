@@ -6,7 +6,7 @@ ghost use Rattle.std.proofs.Common.{rules};
 use super::order::Order;
 
 // Whether a capability may be stored through any that writes (Global), or only through one that may store Local capabilities.
-#[derive(Clone, Copy)]
+#[derive(Clone, Copy, Debug, PartialEq, Eq)]
 pub enum Locality {
     Global,
     Local,

@@ -7,7 +7,7 @@ use super::order::Order;
 
 // What a capability allows. The letters stand for reading, writing, storing Local capabilities and executing. O allows nothing, and E (enter) allows
 // nothing until it is jumped to.
-#[derive(Clone, Copy)]
+#[derive(Clone, Copy, Debug, PartialEq, Eq)]
 pub enum Permission {
     O,
     RO,
