@@ -5,7 +5,7 @@ use model::Status;
 use std::fmt;
 
 // What a trial came to: the survey's counts, how the visit stood at its end, and the steps made.
-#[derive(Clone, Copy)]
+#[derive(Clone, Copy, Debug, PartialEq, Eq)]
 pub struct Ending {
     pub marked: usize,
     pub writable: usize,

@@ -48,8 +48,8 @@ fn try_on<M: Memory>(memory: M, groups: &[u8], hand: &Hand, budget: u32) -> (M, 
 }
 
 // A trial of a sheet, on a packed memory in the area.
-fn try_sheet<'a, 'b>(sheet: Sheet<'a>, area: &'b mut [u8]) -> Report<'a, 'b>
-    requires { (length sheet.cells.now ≤ length area.old) × (length sheet.cells.now ≤ 16384) }
+fn try_sheet<'a, 'b>(sheet: Sheet<'a>, area: &'b mut [u8; AREA]) -> Report<'a, 'b>
+    requires { length sheet.cells.now ≤ AREA }
     ensures tried { Ends (packed_row result.before.now) (hand_words sheet.entry.hand) sheet.entry.budget result.ending (packed_row result.after.now) }
     ensures before { result.before.now ≡ sheet.entry.cells.now }
 {
