@@ -16,19 +16,19 @@ use Rattle.sheet.specs.Sheets.{group_count, sheet_word, offset, Packs, FirstMalf
 
 -- What unpacking answered, as the group's word.
 given : (o : Option Word) (w : Word) → word w ≡ or_refused o → o ≡ Some w
-given (Some v) w e = let same : v ≡ w = cc in ap Some same
-given None w e = let z : ◌≡◌ {A = ℕ} 0 1 = cc in absurd (omega arith)
+given (Some v) w e = cc
+given None w e = absurd (cc)
 
 none_given : (o : Option Word) (n : ℕ) → refused n ≡ or_refused o → (o ≡ None) × (n ≡ 5)
-none_given (Some v) n e = let z : ◌≡◌ {A = ℕ} 0 1 = cc in absurd (omega arith)
-none_given None n e = let five : n ≡ 5 = cc in (refl, five)
+none_given (Some v) n e = absurd (cc)
+none_given None n e = (refl, cc)
 
 -- The part from the offset on that the code cuts out is the group.
 abbrev part : List ℕ → ℕ → List ℕ
 part bytes i = take (offset i + 8 - offset i) (drop (offset i) bytes)
 
 cut : (bytes : List ℕ) (i : ℕ) → part bytes i ≡ group_at bytes (offset i)
-cut bytes i = let eight : offset i + 8 - offset i ≡ 8 = omega arith in ap (λ n. take n (drop (offset i) bytes)) eight
+cut bytes i = grind arith
 
 -- A group's answer, with the offset put to the refusal.
 pub reads : (bytes : List ℕ) (i : ℕ) (u : Result Held Refusal) (r : Result Held Malformed) (P : Refusal → Malformed → Type 0) → unpacking u ≡ unpacking_of (part bytes i) →

@@ -38,9 +38,6 @@ pub record Placed (words cells cells' : List Word) (n : ℕ) : Type 0 where
   pub leads : (size : ℕ) (history : History) → Leads size history (idle cells) → Leads size (placings words n history) (idle cells')
   pub size : length cells' ≡ length cells
 
-pub placed_none : (words cells : List Word) → Placed words cells cells 0
-placed_none words cells = record { leads = λ size history l. l; size = refl }
-
 pub placed_more : (words cells cells' cells'' : List Word) (n : ℕ) (r : Result (Unit {0}) Refusal) → Placed words cells cells' n → n < length cells →
     Does (idle cells') (placing n (at words n)) (done_answer r) (idle cells'') → Placed words cells cells'' (n + 1)
 placed_more words cells cells' cells'' n (Ok u) p h does =

@@ -1,7 +1,6 @@
 use Rattle.std.proofs.Common.{◌≡◌, ℕ, ◌/◌, [], length, ap, subst, arith}
 use lib.ListN.{length-replicate}
 use Rattle.words.specs.Word.{zero_word}
-use Rattle.groups.specs.Hands.{hand_words}
 use Rattle.memory.specs.Packs.{packed_row, packed_length}
 use Rattle.model.specs.Bench.{Leads}
 use Rattle.bench.specs.States.{idle_of}
@@ -23,7 +22,6 @@ unwrap-marked-requires g c =
 pub returns : goal.returns
 returns g c =
     let words = packed_row c.args.groups.now in
-    let hand = hand_words c.args.hand.now in
     let n = length words in
     let started : Leads n [] (idle_of g.M.Memory.row c.make-bench.result) =
     subst (λ (k : ℕ). Leads k [] (idle_of g.M.Memory.row c.make-bench.result)) c.requires.0 c.make-bench.ensures.starts.0
