@@ -5,19 +5,22 @@ use super::malformed::Malformed;
 use groups::{Hand, unpack};
 use words::{Refusal, Word};
 
-// The bytes of a sheet's budget, and of a word's group.
+// The bytes of the budget.
 const BUDGET: usize = 4;
 
+// The bytes of a word's group.
 const GROUP: usize = 8;
 
-// The groups of the hand, which come first, and the most groups of cells.
+// The words of a hand.
 const REGISTERS: usize = 16;
 
+// The most cells that a sheet has.
 pub const MOST_CELLS: usize = 2048;
 
-// The bytes before the first cell's group, and the most bytes that a sheet has.
+// The bytes before the first cell's group: the budget, and the hand's groups.
 const FRONT: usize = BUDGET + GROUP * REGISTERS;
 
+// The most bytes that a sheet has.
 pub const LONGEST: usize = FRONT + GROUP * MOST_CELLS;
 
 // What a well-formed input says: how many steps a run may make, the hand that a visit is opened with, and the groups of the words that are placed from
@@ -46,12 +49,13 @@ fn read_group(bytes: &[u8], group: usize) -> Result<Word, Malformed>
 
 // The hand's words, or the first of its groups that packs none.
 fn read_hand(bytes: &[u8]) -> Result<Hand, Malformed>
-    requires { 132 ≤ length bytes.now }
+    requires { FRONT ≤ length bytes.now }
     ensures { ReadsHand bytes.now result }
 {
     let mut hand = Hand::new();
     for register in 0..REGISTERS {
         let word = read_group(bytes, register)?;
+        // not refused, since there is such a register
         let _ = hand.set(register, &word);
     }
     Ok(hand)
@@ -59,7 +63,7 @@ fn read_hand(bytes: &[u8]) -> Result<Hand, Malformed>
 
 // Whether every cell's group packs a word, or the first that does not.
 fn read_cells(bytes: &[u8]) -> Result<(), Malformed>
-    requires { 132 ≤ length bytes.now }
+    requires { FRONT ≤ length bytes.now }
     ensures { ReadsCells bytes.now result }
 {
     for group in REGISTERS..(bytes.len() - BUDGET) / GROUP {

@@ -1,5 +1,5 @@
 ghost use Rattle.std.specs.Prelude.{◌++◌, Some};
-ghost use Rattle.trial.specs.Texts.{report_text};
+ghost use Rattle.trial.specs.Texts.{place_text, report_text};
 
 use model::Status;
 use std::fmt;
@@ -38,23 +38,29 @@ impl<'a, 'b> fmt::Display for Report<'a, 'b> {
                 "reach {marked} {writable}\noutcome running steps {steps}"
             ),
             Status::Halted => write!(f, "reach {marked} {writable}\noutcome halted steps {steps}"),
-            Status::Failed {
-                cause,
-                place: Some(place),
-            } => {
+            Status::Failed { cause, place } => {
                 let number = cause.number();
+                let place = Place(place);
                 write!(
                     f,
                     "reach {marked} {writable}\noutcome failed steps {steps}\nfault {number} at {place}"
                 )
             }
-            Status::Failed { cause, place: None } => {
-                let number = cause.number();
-                write!(
-                    f,
-                    "reach {marked} {writable}\noutcome failed steps {steps}\nfault {number} at -"
-                )
-            }
+        }
+    }
+}
+
+// The place of a fault, `-` where it is absent.
+#[derive(Clone, Copy)]
+struct Place(Option<u32>);
+
+impl fmt::Display for Place {
+    ghost output = { λ p. Some (place_text p.0) };
+
+    fn fmt<W: fmt::Write>(&self, f: &mut fmt::Formatter<W>) -> fmt::Result {
+        match self.0 {
+            Some(address) => write!(f, "{address}"),
+            None => write!(f, "-"),
         }
     }
 }

@@ -23,18 +23,20 @@ fn place_groups<M: Memory>(bench: &mut Idle<M>, groups: &[u8])
 {
     for (address, group) in groups.chunks_exact(8).enumerate() {
         let word = unpack(group).unwrap_or(Word::Int(0));
+        // not refused, since there is such a cell
         let _ = bench.place(address, word);
     }
 }
 
 // A trial on any memory that has a cell for each group: the memory as it is left, and what the trial came to.
 fn try_on<M: Memory>(memory: M, groups: &[u8], hand: &Hand, budget: u32) -> (M, Ending)
-    requires { (length (M.Memory.row memory) ≡ length (packed_row groups.now)) × (length (M.Memory.row memory) ≤ 2048) }
+    requires { (length (M.Memory.row memory) ≡ length (packed_row groups.now)) × (length (M.Memory.row memory) ≤ MOST_CELLS) }
     ensures { Ends (packed_row groups.now) (hand_words hand.now) budget result.1 (M.Memory.row result.0) }
 {
     let mut bench = Idle::make(memory);
     place_groups(&mut bench, groups);
     let mut chart = [0u8; MOST_CELLS];
+    // not refused, since the chart has a byte for each cell
     let (marked, writable) = bench.survey(hand, &mut chart).unwrap();
     let mut visit = bench.open(hand);
     let (status, steps) = visit.run(budget);
