@@ -2,35 +2,38 @@
 // prints is compared with what the second implementation prints of the same sheets.
 #![tactic(auto)]
 
+ghost use Rattle.std.specs.Prelude.{length};
+ghost use Rattle.std.specs.Iterator.{at_most};
+
 use printing::print_trial;
 use std::io;
 use std::io::Read;
 
-// The first sheet of a stream and what follows it; none where the stream is at its end, or breaks off.
-fn first_sheet(stream: &[u8]) -> Option<(&[u8], &[u8])> {
-    if stream.len() < 4 {
-        return None;
-    }
-    let length = u32::from_be_bytes([stream[0], stream[1], stream[2], stream[3]]) as usize;
-    let rest = &stream[4..];
-    if length <= rest.len() {
-        Some((&rest[0..length], &rest[length..]))
-    } else {
-        None
+// The sheets that are left of a stream. They end where the stream does, or where it breaks off.
+#[derive(Drop)]
+struct Sheets<'a> {
+    stream: &'a [u8],
+}
+
+impl<'a> Iterator for Sheets<'a> {
+    type Item = &'a [u8];
+
+    ghost remaining = { λ s. at_most (length s.stream.now) };
+
+    fn next(&mut self) -> Option<&'a [u8]> {
+        let (length, rest) = self.stream.split_first_chunk()?;
+        let (sheet, rest) = rest.split_at_checked(u32::from_be_bytes(*length) as usize)?;
+        self.stream = rest;
+        Some(sheet)
     }
 }
 
 fn main(rt: HostRuntime) -> io::Result<()> {
     let mut input = Vec::new(rt.alloc());
     rt.stdin().read_to_end(&mut input)?;
-    let mut stream: &[u8] = &input;
-    for index in 0..u32::MAX {
-        let Some((sheet, rest)) = first_sheet(stream) else {
-            break;
-        };
+    for (index, sheet) in (Sheets { stream: &input }).enumerate() {
         println!(rt; "sheet {index}")?;
         print_trial(&rt, sheet)?;
-        stream = rest;
     }
     Ok(())
 }

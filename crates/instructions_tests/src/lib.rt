@@ -195,26 +195,23 @@ mod tests {
     ];
 
     // What packing gives: the integer, or else the number of the refusal.
-    fn packed(instruction: Instruction) -> (Option<i32>, u32) {
-        match pack(instruction) {
-            Ok(number) => (Some(number), 0),
-            Err(refusal) => (None, refusal.number()),
-        }
+    fn packed(instruction: Instruction) -> Result<i32, u32> {
+        pack(instruction).map_err(|refusal| refusal.number())
     }
 
     // The instruction of an integer, packed again.
     fn again(number: i32) -> Option<i32> {
-        packed(unpack(number)?).0
+        packed(unpack(number)?).ok()
     }
 
     #[test]
     fn packs(rt: HostRuntime) {
         for (instruction, number) in PACKED {
-            assert_eq!(rt; packed(instruction), (Some(number), 0));
+            assert_eq!(rt; packed(instruction), Ok(number));
             assert_eq!(rt; again(number), Some(number));
         }
         for (instruction, refusal) in REFUSED {
-            assert_eq!(rt; packed(instruction), (None, refusal));
+            assert_eq!(rt; packed(instruction), Err(refusal));
         }
         for number in NONE {
             assert!(rt; unpack(number).is_none());

@@ -10,12 +10,7 @@ const SIZES: [(usize, usize); 5] = [(0, 0), (7, 0), (8, 1), (9, 1), (524_301, 65
 
 // Whether every byte is still the one that packs no word.
 pub fn untouched(bytes: &[u8]) -> bool {
-    for byte in bytes {
-        if *byte != 0xFF {
-            return false;
-        }
-    }
-    true
+    bytes.iter().all(|byte| *byte == 0xFF)
 }
 
 // Probes a memory on the first so many bytes, no group of which packs a word. Those past its cells stay.

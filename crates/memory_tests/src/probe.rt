@@ -28,17 +28,13 @@ const ADDRESSES: [usize; 14] = [
 pub fn integer<M: Memory>(memory: &M, address: usize) -> Option<i32> {
     match memory.load(address) {
         Ok(Word::Int(value)) => Some(value),
-        Ok(Word::Cap(_)) => None,
-        Err(_) => None,
+        _ => None,
     }
 }
 
-// The number of the refusal of a load, 0 where it gives a word.
-pub fn refusal<M: Memory>(memory: &M, address: usize) -> u32 {
-    match memory.load(address) {
-        Ok(_) => 0,
-        Err(refusal) => refusal.number(),
-    }
+// The number of the refusal of a load; none where it gives a word.
+pub fn refusal<M: Memory>(memory: &M, address: usize) -> Option<u32> {
+    memory.load(address).err().map(|refusal| refusal.number())
 }
 
 // Checks one address of a memory whose cells mean integer 0: below the size it takes a word and gives it back, from there on it refuses.
@@ -55,7 +51,7 @@ fn probe_at<M: Memory>(
         Ok(())
     } else {
         assert!(rt; memory.store(address, Word::Int(-7)).is_err());
-        assert_eq!(rt; refusal(memory, address), 1);
+        assert_eq!(rt; refusal(memory, address), Some(1));
         Ok(())
     }
 }

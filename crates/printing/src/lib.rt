@@ -11,10 +11,8 @@ pub fn print_trial(rt: &impl Print, input: &[u8]) -> io::Result<()> {
         Err(malformed) => rt.println(malformed),
         Ok(report) => {
             rt.println(&report)?;
-            for address in 0..report.size() {
-                if let Some(cell) = report.changed(address) {
-                    rt.println(cell)?;
-                }
+            for cell in (0..report.size()).filter_map(|address| report.changed(address)) {
+                rt.println(cell)?;
             }
             Ok(())
         }

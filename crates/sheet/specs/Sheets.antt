@@ -1,7 +1,9 @@
 -- Which inputs are sheets, what a sheet says, and where any other input is refused.
 use Rattle.std.specs.Prelude.{◌≡◌, ℕ, ◌+◌, ◌-◌, ◌*◌, ◌/◌, ◌%◌, ◌^◌, ◌<◌, ◌≤◌, Bool, true, false, ◌&&◌, ◌⊎◌, List, length, drop, Some, None, Ok, Err, Option, Result, ◌==◌, nat_le, slice_index}
+use Rattle.words.specs.declared.word.Word.{Word as Held}
 use Rattle.words.specs.Word.{Word, at}
 use Rattle.words.specs.Refusals.{refusal_number}
+use Rattle.words.specs.Meaning.{meaning}
 use Rattle.groups.specs.declared.hand.Hand.{Hand}
 use Rattle.groups.specs.Groups.{group_word, group_at}
 use Rattle.groups.specs.Hands.{hand_words}
@@ -35,6 +37,11 @@ pub record FirstMalformed (bytes : List ℕ) (m : Malformed) : Type 0 where
   pub refusal_is : refusal_number m.refusal ≡ 5
   pub packs_none : sheet_word bytes group ≡ None
   pub earlier : (i : ℕ) → i < group → Packs bytes i
+
+-- A group is read as its word, or it packs none and is refused (5) at its offset.
+abbrev pub ReadsGroup : List ℕ → ℕ → Result Held Malformed → Type 0
+ReadsGroup bytes i (Ok w) = sheet_word bytes i ≡ Some (meaning w)
+ReadsGroup bytes i (Err m) = (sheet_word bytes i ≡ None) × (m.offset ≡ offset i) × (refusal_number m.refusal ≡ 5)
 
 -- The hand's groups pack the hand's words.
 abbrev pub HandIn : List ℕ → Hand → Type 0

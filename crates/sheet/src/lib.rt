@@ -5,4 +5,4 @@ mod malformed;
 mod reading;
 
 pub use malformed::Malformed;
-pub use reading::{LONGEST, Sheet, read_sheet};
+pub use reading::{LONGEST, MOST_CELLS, Sheet, read_sheet};

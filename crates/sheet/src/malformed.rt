@@ -1,11 +1,12 @@
 ghost use Rattle.std.specs.Prelude.{◌++◌, Some, codes, decimal};
 ghost use Rattle.words.specs.Refusals.{refusal_number};
 
+use std::error::Error;
 use std::fmt;
 use words::Refusal;
 
 // Why an input is no sheet, and the offset of the byte where that shows.
-#[derive(Clone, Copy)]
+#[derive(Clone, Copy, Debug, PartialEq, Eq)]
 pub struct Malformed {
     pub refusal: Refusal,
     pub offset: usize,
@@ -20,3 +21,5 @@ impl fmt::Display for Malformed {
         write!(f, "refused {number} at {offset}")
     }
 }
+
+impl Error for Malformed {}

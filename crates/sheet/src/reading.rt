@@ -1,15 +1,27 @@
 ghost use Rattle.std.specs.Prelude.{◌≡◌, ℕ, ◌+◌, ◌-◌, ◌*◌, ◌/◌, ◌<◌, ◌≤◌, length};
-ghost use Rattle.sheet.specs.Sheets.{sheet_length, Reads, ReadsHand, ReadsCells};
+ghost use Rattle.sheet.specs.Sheets.{group_count, sheet_length, Reads, ReadsGroup, ReadsHand, ReadsCells};
 
 use super::malformed::Malformed;
 use groups::{Hand, unpack};
-use words::Refusal;
+use words::{Refusal, Word};
 
-// The bytes before the first cell's group: the budget, and the hand's sixteen groups.
-const FRONT: usize = 132;
+// The bytes of the budget.
+const BUDGET: usize = 4;
 
-// The most bytes that a sheet has: 2,048 cells.
-pub const LONGEST: usize = 16516;
+// The bytes of a word's group.
+const GROUP: usize = 8;
+
+// The words of a hand.
+const REGISTERS: usize = 16;
+
+// The most cells that a sheet has.
+pub const MOST_CELLS: usize = 2048;
+
+// The bytes before the first cell's group: the budget, and the hand's groups.
+const FRONT: usize = BUDGET + GROUP * REGISTERS;
+
+// The most bytes that a sheet has.
+pub const LONGEST: usize = FRONT + GROUP * MOST_CELLS;
 
 // What a well-formed input says: how many steps a run may make, the hand that a visit is opened with, and the groups of the words that are placed from
 // cell 0 on.
@@ -23,39 +35,39 @@ pub struct Sheet<'a> {
 fn is_sheet_length(length: usize) -> bool
     ensures { result ≡ sheet_length length }
 {
-    FRONT <= length && length <= LONGEST && (length - 4) % 8 == 0
+    FRONT <= length && length <= LONGEST && (length - BUDGET) % GROUP == 0
+}
+
+// The word of a group, counted from the hand's first, or the refusal of one that packs none.
+fn read_group(bytes: &[u8], group: usize) -> Result<Word, Malformed>
+    requires { group < group_count bytes.now }
+    ensures { ReadsGroup bytes.now group result }
+{
+    let offset = BUDGET + GROUP * group;
+    unpack(&bytes[offset..offset + GROUP]).map_err(|refusal| Malformed { refusal, offset })
 }
 
 // The hand's words, or the first of its groups that packs none.
 fn read_hand(bytes: &[u8]) -> Result<Hand, Malformed>
-    requires { 132 ≤ length bytes.now }
+    requires { FRONT ≤ length bytes.now }
     ensures { ReadsHand bytes.now result }
 {
     let mut hand = Hand::new();
-    for i in 0..16 {
-        let offset = 4 + 8 * i;
-        match unpack(&bytes[offset..offset + 8]) {
-            Ok(word) => {
-                let _ = hand.set(i, &word);
-            }
-            Err(refusal) => return Err(Malformed { refusal, offset }),
-        }
+    for register in 0..REGISTERS {
+        let word = read_group(bytes, register)?;
+        // not refused, since there is such a register
+        let _ = hand.set(register, &word);
     }
     Ok(hand)
 }
 
 // Whether every cell's group packs a word, or the first that does not.
 fn read_cells(bytes: &[u8]) -> Result<(), Malformed>
-    requires { 132 ≤ length bytes.now }
+    requires { FRONT ≤ length bytes.now }
     ensures { ReadsCells bytes.now result }
 {
-    let groups = (bytes.len() - 4) / 8;
-    for i in 16..groups {
-        let offset = 4 + 8 * i;
-        match unpack(&bytes[offset..offset + 8]) {
-            Ok(_) => {}
-            Err(refusal) => return Err(Malformed { refusal, offset }),
-        }
+    for group in REGISTERS..(bytes.len() - BUDGET) / GROUP {
+        read_group(bytes, group)?;
     }
     Ok(())
 }
@@ -72,7 +84,7 @@ pub fn read_sheet(bytes: &[u8]) -> Result<Sheet<'_>, Malformed>
     }
     let hand = read_hand(bytes)?;
     read_cells(bytes)?;
-    let budget = u32::from_be_bytes([bytes[0], bytes[1], bytes[2], bytes[3]]);
+    let budget = u32::from_be_bytes(*bytes.first_chunk().unwrap());
     Ok(Sheet {
         budget,
         hand,

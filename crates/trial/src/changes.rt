@@ -1,39 +1,27 @@
 ghost use Rattle.std.specs.Prelude.{◌≡◌, ◌/◌, length, Some};
 ghost use Rattle.words.specs.Meaning.{meaning};
-ghost use Rattle.words.specs.Orders.{Exactly};
 ghost use Rattle.words.specs.Word.{at};
 ghost use Rattle.memory.specs.Packs.{packed_row};
 ghost use Rattle.trial.specs.Texts.{cell_text};
 ghost use Rattle.trial.specs.Changes.{Changed};
 
 use super::report::Report;
-use groups::encode;
 use memory::load_packed;
 use std::fmt;
 use words::Word;
 
 // A cell whose word after the run is another than before it, with the word after.
-#[derive(Clone, Copy)]
+#[derive(Clone, Copy, Debug, PartialEq, Eq)]
 pub struct ChangedCell {
     pub address: usize,
     pub word: Word,
 }
 
-// Whether two words are the same.
-fn same_word(first: &Word, second: &Word) -> bool
-    ensures { Exactly result (meaning first.now ≡ meaning second.now) }
-{
-    encode(first) == encode(second)
-}
-
 // The word of a cell; integer 0 where there is no such cell.
-pub(crate) fn word_at(bytes: &[u8], address: usize) -> Word
+fn word_at(bytes: &[u8], address: usize) -> Word
     ensures { meaning result ≡ at (packed_row bytes.now) address }
 {
-    match load_packed(bytes, address) {
-        Ok(word) => word,
-        Err(_) => Word::Int(0),
-    }
+    load_packed(bytes, address).unwrap_or(Word::Int(0))
 }
 
 impl<'a, 'b> Report<'a, 'b> {
@@ -50,11 +38,7 @@ impl<'a, 'b> Report<'a, 'b> {
     {
         let before = word_at(self.before, address);
         let word = word_at(self.after, address);
-        if same_word(&before, &word) {
-            None
-        } else {
-            Some(ChangedCell { address, word })
-        }
+        (before != word).then_some(ChangedCell { address, word })
     }
 }
 

@@ -6,5 +6,5 @@ mod report;
 mod trying;
 
 pub use changes::ChangedCell;
-pub use report::Report;
+pub use report::{Ending, Report};
 pub use trying::{AREA, trial};

@@ -1,51 +1,66 @@
 ghost use Rattle.std.specs.Prelude.{◌++◌, Some};
-ghost use Rattle.trial.specs.Texts.{report_text};
+ghost use Rattle.trial.specs.Texts.{place_text, report_text};
 
 use model::Status;
 use std::fmt;
 
-// What a trial came to: the survey's counts, how the visit stood at its end, the steps made, and the groups of the cells before and after the run.
-#[derive(Drop)]
-pub struct Report<'a, 'b> {
+// What a trial came to: the survey's counts, how the visit stood at its end, and the steps made.
+#[derive(Clone, Copy, Debug, PartialEq, Eq)]
+pub struct Ending {
     pub marked: usize,
     pub writable: usize,
     pub status: Status,
     pub steps: u32,
+}
+
+// The report of a trial: what it came to, and the groups of the cells before and after the run.
+#[derive(Drop)]
+pub struct Report<'a, 'b> {
+    pub ending: Ending,
     pub before: &'a [u8],
     pub after: &'b [u8],
 }
 
 // The lines of the survey, the outcome and the fault, if there is one.
 impl<'a, 'b> fmt::Display for Report<'a, 'b> {
-    ghost output = { λ r. Some (report_text r.marked r.writable r.status r.steps) };
+    ghost output = { λ r. Some (report_text r.ending.marked r.ending.writable r.ending.status r.ending.steps) };
 
     fn fmt<W: fmt::Write>(&self, f: &mut fmt::Formatter<W>) -> fmt::Result {
-        let marked = self.marked;
-        let writable = self.writable;
-        let steps = self.steps;
-        match self.status {
+        let Ending {
+            marked,
+            writable,
+            status,
+            steps,
+        } = self.ending;
+        match status {
             Status::Running => write!(
                 f,
                 "reach {marked} {writable}\noutcome running steps {steps}"
             ),
             Status::Halted => write!(f, "reach {marked} {writable}\noutcome halted steps {steps}"),
-            Status::Failed {
-                cause,
-                place: Some(place),
-            } => {
+            Status::Failed { cause, place } => {
                 let number = cause.number();
+                let place = Place(place);
                 write!(
                     f,
                     "reach {marked} {writable}\noutcome failed steps {steps}\nfault {number} at {place}"
                 )
             }
-            Status::Failed { cause, place: None } => {
-                let number = cause.number();
-                write!(
-                    f,
-                    "reach {marked} {writable}\noutcome failed steps {steps}\nfault {number} at -"
-                )
-            }
+        }
+    }
+}
+
+// The place of a fault, `-` where it is absent.
+#[derive(Clone, Copy)]
+struct Place(Option<u32>);
+
+impl fmt::Display for Place {
+    ghost output = { λ p. Some (place_text p.0) };
+
+    fn fmt<W: fmt::Write>(&self, f: &mut fmt::Formatter<W>) -> fmt::Result {
+        match self.0 {
+            Some(address) => write!(f, "{address}"),
+            None => write!(f, "-"),
         }
     }
 }

@@ -1,82 +1,58 @@
-ghost use Rattle.std.specs.Prelude.{◌≡◌, ℕ, ◌*◌, ◌≤◌, List, length};
+ghost use Rattle.std.specs.Prelude.{◌≡◌, ℕ, ◌*◌, ◌/◌, ◌≤◌, List, length};
 ghost use Rattle.groups.specs.Hands.{hand_words};
 ghost use Rattle.memory.specs.Packs.{packed_row};
-ghost use Rattle.model.specs.Bench.{survey as surveying, surveyed, History, Leads, idle};
-ghost use Rattle.model.specs.Findings.{Lawful};
+ghost use Rattle.model.specs.Bench.{History, Leads};
 ghost use Rattle.bench.specs.States.{idle_of};
 ghost use Rattle.trial.specs.Trials.{placings, Ends, Tries};
 
-use super::changes::word_at;
-use super::report::Report;
+use super::report::{Ending, Report};
 use bench::Idle;
-use groups::Hand;
+use groups::{Hand, unpack};
 use memory::{Memory, PackedMemory};
-use model::Status;
-use sheet::{Malformed, Sheet, read_sheet};
+use sheet::{MOST_CELLS, Malformed, Sheet, read_sheet};
+use words::Word;
 
-// The most cells that a sheet has, and the bytes of their groups.
-const MOST_CELLS: usize = 2048;
-
-pub const AREA: usize = 16384;
+// The bytes of the most cells that a sheet has.
+pub const AREA: usize = 8 * MOST_CELLS;
 
 // Places the words of the groups, each into the cell of its own number.
-fn place_groups<M: Memory>(bench: &mut Idle<M>, groups: &[u8], count: usize)
-    requires { count ≤ length (M.Memory.row bench.old.memory) }
-    ensures placed { (size : ℕ) (history : History) → Leads size history (idle_of M.Memory.row bench.old) → Leads size (placings (packed_row groups.now) count history) (idle_of M.Memory.row bench.new) }
+fn place_groups<M: Memory>(bench: &mut Idle<M>, groups: &[u8])
+    requires { length groups.now / 8 ≤ length (M.Memory.row bench.old.memory) }
+    ensures placed { (size : ℕ) (history : History) → Leads size history (idle_of M.Memory.row bench.old) → Leads size (placings (packed_row groups.now) (length groups.now / 8) history) (idle_of M.Memory.row bench.new) }
     ensures size { length (M.Memory.row bench.new.memory) ≡ length (M.Memory.row bench.old.memory) }
 {
-    for address in 0..count {
-        let word = word_at(groups, address);
+    for (address, group) in groups.chunks_exact(8).enumerate() {
+        let word = unpack(group).unwrap_or(Word::Int(0));
+        // not refused, since there is such a cell
         let _ = bench.place(address, word);
     }
 }
 
-// The survey's counts, on a chart that has a byte for each cell.
-fn count_reached<M: Memory>(bench: &Idle<M>, hand: &Hand, chart: &mut [u8]) -> (usize, usize)
-    requires { length (M.Memory.row bench.now.memory) ≤ length chart.old }
-    ensures { Lawful (idle_of M.Memory.row bench.now) (surveying (hand_words hand.now) chart.old) (surveyed result.0 result.1 chart.new) (idle_of M.Memory.row bench.now) }
+// A trial on any memory that has a cell for each group: the memory as it is left, and what the trial came to.
+fn try_on<M: Memory>(memory: M, groups: &[u8], hand: &Hand, budget: u32) -> (M, Ending)
+    requires { (length (M.Memory.row memory) ≡ length (packed_row groups.now)) × (length (M.Memory.row memory) ≤ MOST_CELLS) }
+    ensures { Ends (packed_row groups.now) (hand_words hand.now) budget result.1 (M.Memory.row result.0) }
 {
-    match bench.survey(hand, chart) {
-        Ok(counts) => counts,
-        Err(_) => unreachable(),
-    }
-}
-
-// What a trial leaves, and what it came to.
-struct Ending<M: Memory> {
-    memory: M,
-    marked: usize,
-    writable: usize,
-    status: Status,
-    steps: u32,
-}
-
-// A trial on any memory that has a cell for each group.
-fn try_on<M: Memory>(memory: M, groups: &[u8], hand: &Hand, budget: u32) -> Ending<M>
-    requires { (length (M.Memory.row memory) ≡ length (packed_row groups.now)) × (length (M.Memory.row memory) ≤ 2048) }
-    ensures { Ends (packed_row groups.now) (hand_words hand.now) budget result.marked result.writable result.status result.steps (M.Memory.row result.memory) }
-{
-    let size = memory.size();
     let mut bench = Idle::make(memory);
-    place_groups(&mut bench, groups, size);
+    place_groups(&mut bench, groups);
     let mut chart = [0u8; MOST_CELLS];
-    let (marked, writable) = count_reached(&bench, hand, &mut chart);
+    // not refused, since the chart has a byte for each cell
+    let (marked, writable) = bench.survey(hand, &mut chart).unwrap();
     let mut visit = bench.open(hand);
     let (status, steps) = visit.run(budget);
-    let memory = visit.close().end();
-    Ending {
-        memory,
+    let ending = Ending {
         marked,
         writable,
         status,
         steps,
-    }
+    };
+    (visit.close().end(), ending)
 }
 
 // A trial of a sheet, on a packed memory in the area.
-fn try_sheet<'a, 'b>(sheet: Sheet<'a>, area: &'b mut [u8]) -> Report<'a, 'b>
-    requires { (length sheet.cells.now ≤ length area.old) × (length sheet.cells.now ≤ 16384) }
-    ensures tried { Ends (packed_row result.before.now) (hand_words sheet.entry.hand) sheet.entry.budget result.marked result.writable result.status result.steps (packed_row result.after.now) }
+fn try_sheet<'a, 'b>(sheet: Sheet<'a>, area: &'b mut [u8; AREA]) -> Report<'a, 'b>
+    requires { length sheet.cells.now ≤ AREA }
+    ensures tried { Ends (packed_row result.before.now) (hand_words sheet.entry.hand) sheet.entry.budget result.ending (packed_row result.after.now) }
     ensures before { result.before.now ≡ sheet.entry.cells.now }
 {
     let Sheet {
@@ -84,22 +60,12 @@ fn try_sheet<'a, 'b>(sheet: Sheet<'a>, area: &'b mut [u8]) -> Report<'a, 'b>
         hand,
         cells,
     } = sheet;
-    let memory = PackedMemory::new(&mut area[0..cells.len()]);
-    let Ending {
-        memory,
-        marked,
-        writable,
-        status,
-        steps,
-    } = try_on(memory, cells, &hand, budget);
-    let after: &'b [u8] = memory.back();
+    let memory = PackedMemory::new(&mut area[..cells.len()]);
+    let (memory, ending) = try_on(memory, cells, &hand, budget);
     Report {
-        marked,
-        writable,
-        status,
-        steps,
+        ending,
         before: cells,
-        after,
+        after: memory.back(),
     }
 }
 

@@ -24,14 +24,7 @@ const GROUPS: [(u64, bool); 16] = [
 // Whether the bytes of a number unpack, and then pack into the same bytes.
 fn comes_back(number: u64) -> bool {
     let bytes = number.to_be_bytes();
-    match unpack(&bytes) {
-        Ok(word) => pack(&word) == bytes,
-        Err(_) => false,
-    }
-}
-
-fn is_zero(word: Word) -> bool {
-    matches!(word, Word::Int(0))
+    unpack(&bytes).is_ok_and(|word| pack(&word) == bytes)
 }
 
 #[test]
@@ -39,7 +32,7 @@ fn groups_come_back_or_are_refused(rt: HostRuntime) {
     for (number, packs) in GROUPS {
         assert_eq!(rt; comes_back(number), packs);
         assert_eq!(rt; decode(number).is_some(), packs);
-        assert!(rt; packs || is_zero(plain_word(number)));
+        assert!(rt; packs || plain_word(number) == Word::Int(0));
     }
 }
 

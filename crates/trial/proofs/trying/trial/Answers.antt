@@ -8,4 +8,4 @@ try_sheet-requires c =
     let input = c.args.input.now in
     let short : length input ≤ 16516 = grind (arith, nat_tests, says.length_is) in
     let cells : length c.in_ok-sheet.sheet.cells.now ≡ length input - 132 = ap length says.cells_are ∙ length-drop 132 input in
-    (omega arith, omega arith)
+    omega arith

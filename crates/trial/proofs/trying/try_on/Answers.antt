@@ -1,41 +1,38 @@
-use Rattle.std.proofs.Common.{◌≡◌, ℕ, List, [], length, sym, ap, ◌∙◌, subst, arith}
+use Rattle.std.proofs.Common.{◌≡◌, ℕ, ◌/◌, [], length, ap, subst, arith}
 use lib.ListN.{length-replicate}
-use Rattle.words.specs.Word.{Word, zero_word}
-use Rattle.groups.specs.Hands.{hand_words}
-use Rattle.memory.specs.Packs.{packed_row}
+use Rattle.words.specs.Word.{zero_word}
+use Rattle.memory.specs.Packs.{packed_row, packed_length}
 use Rattle.model.specs.Bench.{Leads}
 use Rattle.bench.specs.States.{idle_of}
-use Rattle.trial.specs.Trials.{Ends}
-use Rattle.trial.proofs.Calls.{ends}
+use Rattle.trial.specs.Trials.{placings}
+use Rattle.trial.proofs.Calls.{counted}
 use Rattle.trial.proofs.trying.try_on.Goals as goal
 
 pub place_groups-requires : goal.place_groups-requires
 place_groups-requires g c =
     let n = length (g.M.Memory.row c.args.memory) in
-    omega (arith, ap length c.make-bench.ensures.cells ∙ length-replicate n zero_word)
+    omega (arith, packed_length c.args.groups.now, ap length c.make-bench.ensures.cells, length-replicate n zero_word)
 
-pub count_reached-marked-requires : goal.count_reached-marked-requires
-count_reached-marked-requires g c =
+pub unwrap-marked-requires : goal.unwrap-marked-requires
+unwrap-marked-requires g c =
     let n = length (g.M.Memory.row c.args.memory) in
-    omega (arith, ap length c.make-bench.ensures.cells ∙ length-replicate n zero_word, c.place_groups.ensures.size)
+    counted _ c.survey.result (omega (arith, ap length c.make-bench.ensures.cells, length-replicate n zero_word, c.place_groups.ensures.size, c.requires.1))
+    c.survey.ensures.lawful.does
 
 pub returns : goal.returns
 returns g c =
     let words = packed_row c.args.groups.now in
-    let hand = hand_words c.args.hand.now in
-    let n = c.size-size.result in
-    let size : n ≡ length (g.M.Memory.row c.args.memory) = c.size-size.ensures.value in
+    let n = length words in
     let started : Leads n [] (idle_of g.M.Memory.row c.make-bench.result) =
-    subst (λ (k : ℕ). Leads k [] (idle_of g.M.Memory.row c.make-bench.result)) (sym size) c.make-bench.ensures.starts.0
+    subst (λ (k : ℕ). Leads k [] (idle_of g.M.Memory.row c.make-bench.result)) c.requires.0 c.make-bench.ensures.starts.0
     in
-    let placed = c.place_groups.ensures.placed n [] started in
-    let surveyed = (c.count_reached-marked.ensures.keeps n _ placed).0 in
+    let row = g.M.Memory.row in
+    let count : length c.args.groups.now / 8 ≡ n = omega (arith, packed_length c.args.groups.now, c.requires.0, c.requires.1) in
+    let placed = subst (λ (k : ℕ). Leads n (placings words k []) (idle_of row c.place_groups.new.bench)) count (c.place_groups.ensures.placed n [] started) in
+    let survey = rw c.unwrap-marked.ensures at c.survey.ensures.lawful in
+    let surveyed = (survey.keeps n _ placed).0 in
     let opened = (c.open-visit.ensures.lawful.keeps n _ surveyed).0 in
     let ran = (c.run-status.ensures.lawful.keeps n _ opened).0 in
     let closed = c.close.ensures.lawful.keeps n _ ran in
-    let row = g.M.Memory.row in
-    let counts = c.count_reached-marked.result in
-    let outcome = c.run-status.result in
-    let left : row c.end-memory.result ≡ row c.close.result.memory = ap row c.end-memory.ensures in
-    subst (λ (cells : List Word). Ends words hand c.args.budget counts.0 counts.1 outcome.0 outcome.1 cells) (sym left)
-    (ends words hand c.args.budget _ _ _ _ _ _ n _ (size ∙ c.requires.0) closed)
+    let left : row c.end.result ≡ row c.close.result.memory = ap row c.end.ensures in
+    rw left (record { chart = _; charted = _; leads = closed.0; findings = closed.1 })
