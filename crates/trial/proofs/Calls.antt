@@ -10,7 +10,7 @@ use Rattle.words.specs.Meaning.{meaning}
 use Rattle.groups.specs.Groups.{group_word, group_at}
 use Rattle.groups.specs.Answers.{unpacking, unpacking_of}
 use Rattle.memory.specs.Packs.{plain_group}
-use Rattle.memory.proofs.Packs.{means, means_zero}
+use Rattle.memory.proofs.Packs.{means}
 use Rattle.words.specs.Word.{Word, at}
 use Rattle.model.specs.Bench.{Answer, State, placing, survey, refused, idle, cells_of, Does, places, places_no_cell, surveys_short, History, Leads, next}
 use Rattle.bench.specs.Answers.{done_answer, survey_answer}
@@ -80,5 +80,4 @@ cut_more bytes rest group rest' size size' count count' n cut parts full same mo
 -- A group that packs no word means integer 0.
 pub plain_word : (r : Result Held Refusal) (bytes : List ℕ) → unpacking r ≡ unpacking_of bytes → meaning (result_unwrap_or r (Int (pos 0))) ≡ plain_group bytes
 unfolding plain_group
-plain_word (Ok w) bytes e = means (group_word bytes) (meaning w) e
-plain_word (Err x) bytes e = means_zero (group_word bytes) (refusal_number x) e
+plain_word r bytes e = means (group_word bytes) r e
