@@ -1,10 +1,10 @@
 -- Raising marks: nothing to do, one cell, and one range after another.
-use Rattle.std.proofs.Common.{◌≡◌, ℕ, zero, suc, ◌+◌, ◌<◌, ◌≤◌, ◌⊎◌, List, [], ◌∷◌, length, get_or, set, sym, refl, ap, ◌∙◌, subst, inl, inr, arith}
+use Rattle.std.proofs.Common.{◌≡◌, ℕ, zero, suc, ◌+◌, ◌<◌, ◌≤◌, ◌⊎◌, min, List, [], ◌∷◌, ◌++◌, length, get_or, set, sym, refl, ap, ◌∙◌, subst, inl, inr, arith, length-append}
 use Rattle.std.proofs.lemmas.List.{get_or-set_same, get_or-set_other, length-set}
 use Rattle.std.proofs.lemmas.Bool.{cases_eq, cases_lt}
-use Rattle.survey.specs.declared.pending.Pending.{Pending}
-use Rattle.survey.specs.Pending.{Listed, Pushed}
-use Rattle.survey.specs.Marking.{blank, blanks, HasRoom, Raised}
+use Rattle.survey.specs.Pending.{Listed}
+use Rattle.survey.specs.Marking.{blank, blanks, Raised}
+use Rattle.survey.proofs.Listing.{kept, here as there, only as there_only}
 
 blanks_set : (xs : List ℕ) (i y : ℕ) → i < length xs → blanks (set xs i y) + blank (get_or xs i 0) ≡ blanks xs + blank y
 blanks_set [] i y h = absurd (omega arith)
@@ -21,13 +21,17 @@ blank_marked zero h = absurd (omega arith)
 blank_marked (suc n) h = refl
 
 -- a cell without a mark leaves room for one more
-pub room_left : (marks : List ℕ) (p : Pending) (a : ℕ) → HasRoom marks p → a < length marks → get_or marks a 0 ≡ 0 → p.len < 65536
-room_left marks p a r h e =
+pub room_left : (marks p : List ℕ) (a : ℕ) → length p + blanks marks ≤ length marks → length marks ≤ 65536 → a < length marks → get_or marks a 0 ≡ 0 → length p < 65536
+room_left marks p a room small h e =
     let b : blank (get_or marks a 0) ≡ 1 = ap blank e in
-    omega (arith, r.room, r.small, blanks_set marks a 1 h)
+    omega (arith, blanks_set marks a 1 h)
+
+-- what is marked and listed leaves room for what is not
+pub room_kept : {k from to : ℕ} {marks p marks' p' : List ℕ} → Raised k from to marks p marks' p' → length p + blanks marks ≤ length marks → length p' + blanks marks' ≤ length marks'
+room_kept r room = omega (arith, r.balance, r.as_long)
 
 -- nothing changes where all of the range is marked already
-pub nothing_raised : (k from to : ℕ) (marks : List ℕ) (p : Pending) → ((a : ℕ) → from ≤ a → a < to → a < length marks → k ≤ get_or marks a 0) → Raised k from to marks p marks p
+pub nothing_raised : (k from to : ℕ) (marks p : List ℕ) → ((a : ℕ) → from ≤ a → a < to → a < length marks → k ≤ get_or marks a 0) → Raised k from to marks p marks p
 nothing_raised k from to marks p h = record {
   as_long = refl;
   grows = λ a. omega arith;
@@ -59,27 +63,27 @@ module _ (k a : ℕ) (marks : List ℕ) (h : a < length marks) (low : get_or mar
     | inr ne ↦ inl (get_or-set_other marks a x k 0 ne)
   ]
 
-  pub blank_raised : (p p' : Pending) → get_or marks a 0 ≡ 0 → Pushed p a p' → Raised k a (a + 1) marks p (set marks a k) p'
-  blank_raised p p' e t = record {
+  pub blank_raised : (p : List ℕ) → get_or marks a 0 ≡ 0 → Raised k a (a + 1) marks p (set marks a k) (p ++ a ∷ [])
+  blank_raised p e = record {
     as_long = length-set marks a k;
     grows = grows;
     raised = raised;
     only = only;
-    kept = t.kept;
+    kept = kept p a;
     fresh = λ x z m. elim (cases_eq x a) [
-      | inl same ↦ subst (λ (y : ℕ). Listed p' y) (sym same) t.here
+      | inl same ↦ subst (λ (y : ℕ). Listed (p ++ a ∷ []) y) (sym same) (there p a)
       | inr ne ↦ absurd (omega (arith, get_or-set_other marks a x k 0 ne))
     ];
-    listed = λ x l. elim (t.only x l) [
+    listed = λ x l. elim (there_only p a x l) [
       | inl same ↦ inr (subst (λ (y : ℕ). 1 ≤ get_or (set marks a k) y 0) (sym same) (omega (arith, here)))
       | inr l' ↦ inl l'
     ];
     balance =
         let b : blank (get_or marks a 0) ≡ 1 = ap blank e in
-        omega (arith, t.longer, blanks_set marks a k h, blank_marked k (omega arith));
+        omega (arith, length-append p (a ∷ []), blanks_set marks a k h, blank_marked k (omega arith));
   }
 
-  pub marked_raised : (p : Pending) → 1 ≤ get_or marks a 0 → Raised k a (a + 1) marks p (set marks a k) p
+  pub marked_raised : (p : List ℕ) → 1 ≤ get_or marks a 0 → Raised k a (a + 1) marks p (set marks a k) p
   marked_raised p m = record {
     as_long = length-set marks a k;
     grows = grows;
@@ -95,7 +99,7 @@ module _ (k a : ℕ) (marks : List ℕ) (h : a < length marks) (low : get_or mar
   }
 
 -- one range, and then the next
-module _ {k from mid to : ℕ} {m m' m'' : List ℕ} {p p' p'' : Pending} (s : Raised k from mid m p m' p') (t : Raised k mid to m' p' m'' p'') (le : from ≤ mid) (le' : mid ≤ to) where
+module _ {k from mid to : ℕ} {m m' m'' p p' p'' : List ℕ} (s : Raised k from mid m p m' p') (t : Raised k mid to m' p' m'' p'') (le : from ≤ mid) (le' : mid ≤ to) where
   pub and_then : Raised k from to m p m'' p''
   and_then = record {
     as_long = t.as_long ∙ s.as_long;
@@ -122,3 +126,16 @@ module _ {k from mid to : ℕ} {m m' m'' : List ℕ} {p p' p'' : Pending} (s : R
     ];
     balance = t.balance ∙ s.balance;
   }
+
+-- as far as there are cells
+pub to_end : {k from n end to : ℕ} {m m' p p' : List ℕ} → Raised k from (min n end) m p m' p' → end ≡ min (length m) to → end ≤ n → Raised k from to m p m' p'
+to_end s e le = record {
+  as_long = s.as_long;
+  grows = s.grows;
+  raised = λ a l g i. s.raised a l (omega arith) i;
+  only = λ a. elim (s.only a) [ inl same ↦ inl same | inr there ↦ inr (there.0, omega (arith, there.1), there.2, there.3) ];
+  kept = s.kept;
+  fresh = s.fresh;
+  listed = s.listed;
+  balance = s.balance;
+}

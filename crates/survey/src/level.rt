@@ -1,0 +1,40 @@
+ghost use Rattle.std.specs.Prelude.{◌≡◌};
+ghost use Rattle.model.specs.Survey.{count_from};
+ghost use Rattle.survey.specs.Levels.{permission_level, level_number, none_or_level};
+
+use words::Permission;
+
+// How a cell is marked that a held capability covers. The number is its byte; a cell with no mark has 0.
+#[derive(Clone, Copy)]
+pub enum Level {
+    Reached = 1,
+    Writable = 2,
+}
+
+impl Level {
+    // The level at which a capability with this permission marks, if it marks at all.
+    pub fn of(permission: Permission) -> Option<Level>
+        ensures { none_or_level result ≡ permission_level permission }
+    {
+        match permission {
+            Permission::O => None,
+            Permission::RO | Permission::RX | Permission::E => Some(Level::Reached),
+            Permission::RW | Permission::RWL | Permission::RWX | Permission::RWLX =>
+                Some(Level::Writable),
+        }
+    }
+
+    // The byte of a cell that is marked so.
+    pub fn byte(self) -> u8
+        ensures { result ≡ level_number self }
+    {
+        self as u8
+    }
+
+    // How many cells are marked at least at this level.
+    pub fn count(self, marks: &[u8]) -> usize
+        ensures { result ≡ count_from (level_number self) marks.now }
+    {
+        marks.iter().filter(|mark| **mark >= self.byte()).count()
+    }
+}
