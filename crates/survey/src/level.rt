@@ -35,6 +35,7 @@ impl Level {
     pub fn count(self, marks: &[u8]) -> usize
         ensures { result ≡ count_from (level_number self) marks.now }
     {
-        marks.iter().filter(|mark| **mark >= self.byte()).count()
+        let byte = self.byte();
+        marks.iter().filter(move |mark| **mark >= byte).count()
     }
 }

@@ -13,6 +13,7 @@ use groups::Hand;
 use memory::{Memory, PackedMemory};
 use model::Status;
 use sheet::{Malformed, Sheet, read_sheet};
+use survey::Counts;
 
 // The most cells that a sheet has, and the bytes of their groups.
 const MOST_CELLS: usize = 2048;
@@ -32,9 +33,9 @@ fn place_groups<M: Memory>(bench: &mut Idle<M>, groups: &[u8], count: usize)
 }
 
 // The survey's counts, on a chart that has a byte for each cell.
-fn count_reached<M: Memory>(bench: &Idle<M>, hand: &Hand, chart: &mut [u8]) -> (usize, usize)
+fn count_reached<M: Memory>(bench: &Idle<M>, hand: &Hand, chart: &mut [u8]) -> Counts
     requires { length (M.Memory.row bench.now.memory) ≤ length chart.old }
-    ensures { Lawful (idle_of M.Memory.row bench.now) (surveying (hand_words hand.now) chart.old) (surveyed result.0 result.1 chart.new) (idle_of M.Memory.row bench.now) }
+    ensures { Lawful (idle_of M.Memory.row bench.now) (surveying (hand_words hand.now) chart.old) (surveyed result.marked result.writable chart.new) (idle_of M.Memory.row bench.now) }
 {
     match bench.survey(hand, chart) {
         Ok(counts) => counts,
@@ -60,7 +61,7 @@ fn try_on<M: Memory>(memory: M, groups: &[u8], hand: &Hand, budget: u32) -> Endi
     let mut bench = Idle::make(memory);
     place_groups(&mut bench, groups, size);
     let mut chart = [0u8; MOST_CELLS];
-    let (marked, writable) = count_reached(&bench, hand, &mut chart);
+    let Counts { marked, writable } = count_reached(&bench, hand, &mut chart);
     let mut visit = bench.open(hand);
     let (status, steps) = visit.run(budget);
     let memory = visit.close().end();

@@ -37,5 +37,5 @@ returns g c =
     let counts = c.count_reached-marked.result in
     let outcome = c.run-status.result in
     let left : row c.end-memory.result ≡ row c.close.result.memory = ap row c.end-memory.ensures in
-    subst (λ (cells : List Word). Ends words hand c.args.budget counts.0 counts.1 outcome.0 outcome.1 cells) (sym left)
+    subst (λ (cells : List Word). Ends words hand c.args.budget counts.marked counts.writable outcome.0 outcome.1 cells) (sym left)
     (ends words hand c.args.budget _ _ _ _ _ _ n _ (size ∙ c.requires.0) closed)
