@@ -16,6 +16,6 @@ module _ (p : List ℕ) (a : ℕ) where
   only x l = elim (cases_lt l.0 (length p)) [
     | inl before ↦ inr (l.0, before, sym (get_or_append_left p (a ∷ []) 0 l.0 before) ∙ l.2)
     | inr last ↦
-      let e : l.0 ≡ length p = omega (arith, length-append p (a ∷ [])) in
-      inl (sym l.2 ∙ ap (λ (i : ℕ). get_or (p ++ a ∷ []) i 0) e ∙ get_or-append_seam p a [] 0)
+        let e : l.0 ≡ length p = omega (arith, length-append p (a ∷ [])) in
+        inl (sym l.2 ∙ ap (λ (i : ℕ). get_or (p ++ a ∷ []) i 0) e ∙ get_or-append_seam p a [] 0)
   ]

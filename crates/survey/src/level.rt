@@ -1,4 +1,4 @@
-ghost use Rattle.std.specs.Prelude.{◌≡◌};
+ghost use Rattle.std.specs.Prelude.{◌≡◌, ◌≤◌, length};
 ghost use Rattle.model.specs.Survey.{count_from};
 ghost use Rattle.survey.specs.Levels.{permission_level, level_number, none_or_level};
 
@@ -18,9 +18,8 @@ impl Level {
     {
         match permission {
             Permission::O => None,
-            Permission::RO | Permission::RX | Permission::E => Some(Level::Reached),
-            Permission::RW | Permission::RWL | Permission::RWX | Permission::RWLX =>
-                Some(Level::Writable),
+            _ if permission.writes() => Some(Level::Writable),
+            _ => Some(Level::Reached),
         }
     }
 
@@ -33,9 +32,13 @@ impl Level {
 
     // How many cells are marked at least at this level.
     pub fn count(self, marks: &[u8]) -> usize
+        requires { length marks.now ≤ 65536 }
         ensures { result ≡ count_from (level_number self) marks.now }
     {
         let byte = self.byte();
-        marks.iter().filter(move |mark| **mark >= byte).count()
+        marks
+            .iter()
+            .map(move |mark| usize::from(*mark >= byte))
+            .sum()
     }
 }

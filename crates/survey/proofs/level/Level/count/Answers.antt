@@ -11,5 +11,5 @@ one_more n = omega arith
 pub returns : goal.returns
 returns c =
     let k : ℕ = level_number c.args.self in
-    let counted : c.count.result ≡ count_by (λ (m : ℕ). nat_le k m) c.args.marks.now = search rules in
+    let counted : c.sum.result ≡ count_by (λ (m : ℕ). nat_le k m) c.args.marks.now = search rules in
     counted ∙ sym (is_count_by (count_from k) (λ (m : ℕ). nat_le k m) refl (λ m xs. ap (λ (n : ℕ). cond (nat_le k m) n (count_from k xs)) (one_more (count_from k xs))) c.args.marks.now)
