@@ -1,30 +1,25 @@
 -- Raising marks: nothing to do, one cell, and one range after another.
-use Rattle.std.proofs.Common.{◌≡◌, ℕ, zero, suc, ◌+◌, ◌<◌, ◌≤◌, ◌⊎◌, min, List, [], ◌∷◌, ◌++◌, length, get_or, set, sym, refl, ap, ◌∙◌, subst, inl, inr, arith, length-append}
+use Rattle.std.proofs.Common.{◌≡◌, ◌==◌, ℕ, cond, ◌+◌, ◌<◌, ◌≤◌, ◌⊎◌, List, [], ◌∷◌, ◌++◌, length, get_or, set, sym, refl, ap, ◌∙◌, subst, inl, inr, arith, length-append}
 use Rattle.std.proofs.lemmas.List.{get_or-set_same, get_or-set_other, length-set}
+use Rattle.std.proofs.lemmas.List.Sums.{sum_by-set}
 use Rattle.std.proofs.lemmas.Bool.{cases_eq, cases_lt}
+use Rattle.std.proofs.lemmas.Bool.Decides.{nat_tests}
 use Rattle.survey.specs.Pending.{Listed}
-use Rattle.survey.specs.Marking.{blank, blanks, Raised}
+use Rattle.survey.specs.Marking.{blanks, Raised}
 use Rattle.survey.proofs.Listing.{kept, here as there, only as there_only}
 
-blanks_set : (xs : List ℕ) (i y : ℕ) → i < length xs → blanks (set xs i y) + blank (get_or xs i 0) ≡ blanks xs + blank y
-blanks_set [] i y h = absurd (omega arith)
-blanks_set (x ∷ xs) zero y h = omega arith
-blanks_set (x ∷ xs) (suc i) y h = omega (arith, blanks_set xs i y (omega arith))
+-- what a mark adds to the number of cells that are not marked
+abbrev blank : ℕ → ℕ
+blank mark = cond (mark == 0) 1 0
 
-pub blanks_le : (xs : List ℕ) → blanks xs ≤ length xs
-blanks_le [] = omega arith
-blanks_le (zero ∷ xs) = omega (arith, blanks_le xs)
-blanks_le (suc x ∷ xs) = omega (arith, blanks_le xs)
-
-blank_marked : (n : ℕ) → 1 ≤ n → blank n ≡ 0
-blank_marked zero h = absurd (omega arith)
-blank_marked (suc n) h = refl
+marked : (n : ℕ) → 1 ≤ n → blank n ≡ 0
+marked n h = grind (arith, nat_tests)
 
 -- a cell without a mark leaves room for one more
 pub room_left : (marks p : List ℕ) (a : ℕ) → length p + blanks marks ≤ length marks → length marks ≤ 65536 → a < length marks → get_or marks a 0 ≡ 0 → length p < 65536
 room_left marks p a room small h e =
     let b : blank (get_or marks a 0) ≡ 1 = ap blank e in
-    omega (arith, blanks_set marks a 1 h)
+    omega (arith, sum_by-set blank marks a 1 0 h)
 
 -- what is marked and listed leaves room for what is not
 pub room_kept : {k from to : ℕ} {marks p marks' p' : List ℕ} → Raised k from to marks p marks' p' → length p + blanks marks ≤ length marks → length p' + blanks marks' ≤ length marks'
@@ -80,7 +75,7 @@ module _ (k a : ℕ) (marks : List ℕ) (h : a < length marks) (low : get_or mar
     ];
     balance =
         let b : blank (get_or marks a 0) ≡ 1 = ap blank e in
-        omega (arith, length-append p (a ∷ []), blanks_set marks a k h, blank_marked k (omega arith));
+        omega (arith, length-append p (a ∷ []), sum_by-set blank marks a k 0 h, marked k (omega arith));
   }
 
   pub marked_raised : (p : List ℕ) → 1 ≤ get_or marks a 0 → Raised k a (a + 1) marks p (set marks a k) p
@@ -95,7 +90,7 @@ module _ (k a : ℕ) (marks : List ℕ) (h : a < length marks) (low : get_or mar
       | inr ne ↦ absurd (omega (arith, get_or-set_other marks a x k 0 ne))
     ];
     listed = λ x l. inl l;
-    balance = omega (arith, blanks_set marks a k h, blank_marked k (omega arith), blank_marked (get_or marks a 0) m);
+    balance = omega (arith, sum_by-set blank marks a k 0 h, marked k (omega arith), marked (get_or marks a 0) m);
   }
 
 -- one range, and then the next
@@ -126,16 +121,3 @@ module _ {k from mid to : ℕ} {m m' m'' p p' p'' : List ℕ} (s : Raised k from
     ];
     balance = t.balance ∙ s.balance;
   }
-
--- as far as there are cells
-pub to_end : {k from n end to : ℕ} {m m' p p' : List ℕ} → Raised k from (min n end) m p m' p' → end ≡ min (length m) to → end ≤ n → Raised k from to m p m' p'
-to_end s e le = record {
-  as_long = s.as_long;
-  grows = s.grows;
-  raised = λ a l g i. s.raised a l (omega arith) i;
-  only = λ a. elim (s.only a) [ inl same ↦ inl same | inr there ↦ inr (there.0, omega (arith, there.1), there.2, there.3) ];
-  kept = s.kept;
-  fresh = s.fresh;
-  listed = s.listed;
-  balance = s.balance;
-}

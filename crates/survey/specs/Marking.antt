@@ -1,15 +1,10 @@
 -- What marking a range of cells does to the marks and to the work list p.
-use Rattle.std.specs.Prelude.{◌≡◌, ℕ, zero, suc, ◌+◌, ◌<◌, ◌≤◌, ◌⊎◌, List, [], ◌∷◌, length, slice_index}
+use Rattle.std.specs.Prelude.{◌≡◌, ◌==◌, ℕ, ◌+◌, ◌<◌, ◌≤◌, ◌⊎◌, List, count_by, length, slice_index}
 use Rattle.survey.specs.Pending.{Listed}
-
-abbrev pub blank : ℕ → ℕ
-blank zero = 1
-blank (suc n) = 0
 
 -- How many cells are not marked.
 abbrev pub blanks : List ℕ → ℕ
-blanks [] = 0
-blanks (x ∷ xs) = blank x + blanks xs
+blanks = count_by (λ mark. mark == 0)
 
 -- The cells from `from` up to and without `to` are marked at least k, as far as there are cells. No other mark changes and none is lowered. Each cell that
 -- had no mark before is now on the list, and every cell that was on the list still is.

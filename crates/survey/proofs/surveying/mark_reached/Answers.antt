@@ -1,13 +1,11 @@
-use Rattle.std.proofs.Common.{rules, ◌≡◌, ℕ, List, [], ◌∷◌, length, sym, refl, ap, ◌∙◌, subst, arith, length-append}
-use Rattle.std.proofs.lemmas.List.{get_or-map, length-map}
+use Rattle.std.proofs.Common.{rules, ◌≡◌, ℕ, List, sym, refl, ap, ◌∙◌, subst, arith}
+use Rattle.std.proofs.lemmas.List.{get_or-map}
 use Rattle.words.specs.Word.{Word, zero_word}
 use Rattle.groups.specs.Packing.{plain}
-use Rattle.groups.specs.Hands.{hand_words}
-use Rattle.survey.specs.Marking.{blanks}
 use Rattle.survey.specs.Progress.{Complete}
 use Rattle.survey.proofs.Loading.{or_zero, at_loaded}
 use Rattle.survey.proofs.Raising.{nothing_raised}
-use Rattle.survey.proofs.Progressing.{begun, fewer, hand_more, cell_more, completed}
+use Rattle.survey.proofs.Progressing.{begun, hand_more, cell_more, completed}
 use Rattle.survey.proofs.surveying.mark_reached.Goals as goal
 
 pub loop-number-init : goal.loop-number-init
@@ -24,15 +22,6 @@ loop-number-preserved g c = record {
       c.loop-number.invariant.progress c.follow.ensures.raised;
 }
 
-pub loop-address-init : goal.loop-address-init
-loop-address-init g c = record {
-  same = refl;
-  progress = fewer _ (omega (arith, length-map c.args.hand.now.numbers plain)) c.loop-number.invariant.progress;
-}
-
-pub loop-address-smaller-in-Ok : goal.loop-address-smaller-in-Ok
-loop-address-smaller-in-Ok g c = omega (arith, c.follow-in-Ok.ensures.raised.balance, ap blanks c.in-Some.ensures.marks, ap length c.in-Some.ensures.taken, length-append c.next_pending.new.self.pending.items (c.in-Some.address ∷ []))
-
 pub loop-address-preserved-in-Ok : goal.loop-address-preserved-in-Ok
 loop-address-preserved-in-Ok g c = record {
   same = c.follow-in-Ok.ensures.same_reference ∙ c.in-Some.ensures.same_reference ∙ c.loop-address.invariant.same;
@@ -40,9 +29,6 @@ loop-address-preserved-in-Ok g c = record {
       cell_more c.in-Some.address _ (at_loaded (g.M.Memory.row c.args.memory.now) c.in-Some.address ∙ ap or_zero (sym c.in-Ok.ensures))
       (rw (c.in-Some.ensures.taken) at c.loop-address.invariant.progress) (rw c.in-Some.ensures.marks at c.follow-in-Ok.ensures.raised);
 }
-
-pub loop-address-smaller : goal.loop-address-smaller
-loop-address-smaller g c = omega (arith, ap blanks c.in-Some.ensures.marks, ap length c.in-Some.ensures.taken, length-append c.next_pending.new.self.pending.items (c.in-Some.address ∷ []))
 
 -- an address beyond the size, which is never listed: there is nothing to follow
 pub loop-address-preserved : goal.loop-address-preserved
