@@ -23,15 +23,6 @@ module _ (hand cells : List Word) (marks : List ℕ) (none : (a : ℕ) → get_o
     from_cells = λ a c g e. absurd (omega (arith, none a));
   }
 
-pub fewer : {hand cells : List Word} {n : ℕ} {marks p : List ℕ} (m : ℕ) → m ≤ n → Progress hand cells n marks p → Progress hand cells m marks p
-fewer m le r = record {
-  as_long = r.as_long;
-  sound = r.sound;
-  listed = r.listed;
-  from_hand = λ i c h e. r.from_hand i c (omega arith) e;
-  from_cells = r.from_cells;
-}
-
 module _ {k from to : ℕ} {marks marks' p p' : List ℕ} (s : Raised k from to marks p marks' p') where
   still_painted : (c : Cap) → Painted marks c → Painted marks' c
   still_painted c q a within h = omega (arith, q a within (omega (arith, s.as_long)), s.grows a)

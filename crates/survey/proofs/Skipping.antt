@@ -1,5 +1,6 @@
 -- Skips that stay right, and ranges that are marked by them.
-use Rattle.std.proofs.Common.{◌≡◌, ℕ, zero, suc, ◌+◌, ◌<◌, ◌≤◌, min, List, get_or, replicate, refl, subst, arith}
+use Rattle.std.proofs.Common.{◌≡◌, ℕ, ◌+◌, ◌<◌, ◌≤◌, min, List, get_or, replicate, subst, arith}
+use Rattle.std.proofs.lemmas.Grind.{common_steps}
 use Rattle.survey.specs.declared.skips.Skips.{Skips}
 use Rattle.survey.specs.Marking.{Raised}
 use Rattle.survey.specs.Skips.{AllMarked, SkipsMarked}
@@ -21,9 +22,7 @@ module _ {k from a end : ℕ} {m m' p p' : List ℕ} (s : Raised k from (min a e
 
 -- where there is no skip yet, none is wrong
 no_skip : (n a : ℕ) → ◌≡◌ {A = ℕ} (get_or (replicate n 0) a 0) 0
-no_skip zero a = refl
-no_skip (suc n) zero = refl
-no_skip (suc n) (suc a) = no_skip n a
+no_skip n a = grind (arith, common_steps)
 
 pub new_marked : (n k : ℕ) (marks : List ℕ) → SkipsMarked k marks (record { next = replicate n 0 })
 new_marked n k marks a x l g h = absurd (omega (arith, no_skip n a))

@@ -60,10 +60,10 @@ impl<'a> Search<'a> {
         ensures same_reference { self.new.marks.ghost_name ≡ self.old.marks.ghost_name }
         ensures raised { Raised (word_level (meaning word)) (word_base (meaning word)) (word_end (meaning word)) self.old.marks.now self.old.pending.items self.new.marks.now self.new.pending.items }
     {
-        if let Word::Cap(held) = word {
-            if let Some(level) = Level::of(held.permission()) {
-                self.mark_range(held.bounds(), level);
-            }
+        if let Word::Cap(held) = word
+            && let Some(level) = Level::of(held.permission())
+        {
+            self.mark_range(held.bounds(), level);
         }
     }
 
