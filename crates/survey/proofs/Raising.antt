@@ -4,6 +4,7 @@ use Rattle.std.proofs.lemmas.List.{get_or-set_same, get_or-set_other, length-set
 use Rattle.std.proofs.lemmas.List.Sums.{sum_by-set}
 use Rattle.std.proofs.lemmas.Bool.{cases_eq, cases_lt}
 use Rattle.std.proofs.lemmas.Bool.Decides.{nat_tests}
+use Rattle.std.proofs.lemmas.Grind.{common_steps}
 use Rattle.survey.specs.Pending.{Listed}
 use Rattle.survey.specs.Marking.{blanks, Raised}
 use Rattle.survey.proofs.Listing.{kept, here as there, only as there_only}
@@ -44,13 +45,10 @@ module _ (k a : ℕ) (marks : List ℕ) (h : a < length marks) (low : get_or mar
   here = get_or-set_same marks a k 0 h
 
   grows : (x : ℕ) → get_or marks x 0 ≤ get_or (set marks a k) x 0
-  grows x = elim (cases_eq x a) [
-    | inl e ↦ subst (λ (y : ℕ). get_or marks y 0 ≤ get_or (set marks a k) y 0) (sym e) (omega (arith, here))
-    | inr ne ↦ omega (arith, get_or-set_other marks a x k 0 ne)
-  ]
+  grows x = grind (arith, common_steps, here)
 
   raised : (x : ℕ) → a ≤ x → x < a + 1 → x < length marks → k ≤ get_or (set marks a k) x 0
-  raised x l g i = let e : a ≡ x = omega arith in subst (λ (y : ℕ). k ≤ get_or (set marks a k) y 0) e (omega (arith, here))
+  raised x l g i = grind (arith, common_steps, here)
 
   only : (x : ℕ) → (get_or (set marks a k) x 0 ≡ get_or marks x 0) ⊎ ((a ≤ x) × (x < a + 1) × (x < length marks) × (get_or (set marks a k) x 0 ≡ k))
   only x = elim (cases_eq x a) [

@@ -30,7 +30,7 @@ impl Level {
         self as u8
     }
 
-    // How many cells are marked at least at this level.
+    // How many cells are marked at least at this level. A sum of ones, since a filter and its count took a third longer.
     pub fn count(self, marks: &[u8]) -> usize
         requires { length marks.now ≤ 65536 }
         ensures { result ≡ count_from (level_number self) marks.now }

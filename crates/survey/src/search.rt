@@ -54,7 +54,7 @@ impl<'a> Search<'a> {
     }
 
     // Marks what a word covers, and lists what had no mark. A word that is no capability covers nothing.
-    // The calls of a survey spend up to a quarter of its time where this is not inlined.
+    // Inlined always: a survey of a long chain took a quarter longer where it was not.
     #[inline(always)]
     pub fn follow(&mut self, word: Word)
         ensures same_reference { self.new.marks.ghost_name ≡ self.old.marks.ghost_name }
