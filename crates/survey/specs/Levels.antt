@@ -12,9 +12,9 @@ level_number Reached = 1
 level_number Writable = 2
 
 -- The same, and 0 for no level.
-abbrev pub none_or_level : Option Level → ℕ
-none_or_level None = 0
-none_or_level (Some level) = level_number level
+abbrev pub level_or_zero : Option Level → ℕ
+level_or_zero None = 0
+level_or_zero (Some level) = level_number level
 
 -- 2 for a permission that writes, else 1, and 0 for O.
 abbrev pub permission_level : Permission → ℕ

@@ -1,6 +1,6 @@
 ghost use Rattle.std.specs.Prelude.{◌≡◌, ◌≤◌, length};
 ghost use Rattle.model.specs.Survey.{count_from};
-ghost use Rattle.survey.specs.Levels.{permission_level, level_number, none_or_level};
+ghost use Rattle.survey.specs.Levels.{permission_level, level_number, level_or_zero};
 
 use words::Permission;
 
@@ -14,7 +14,7 @@ pub enum Level {
 impl Level {
     // The level at which a capability with this permission marks, if it marks at all.
     pub fn of(permission: Permission) -> Option<Level>
-        ensures { none_or_level result ≡ permission_level permission }
+        ensures { level_or_zero result ≡ permission_level permission }
     {
         match permission {
             Permission::O => None,
