@@ -16,6 +16,7 @@ use Rattle.model.specs.declared.status.Status.{Status}
 use Rattle.model.specs.declared.status.Status.TheVariants.{Running, Halted, Failed}
 use Rattle.model.specs.Machine.{Machine}
 use Rattle.model.specs.Run.{Runs, already_halted, already_failed}
+use Rattle.survey.specs.declared.surveying.Counts.{Counts}
 use Rattle.survey.specs.Surveyed.{Surveyed}
 use Rattle.bench.specs.Answers.{done_answer, word_answer, survey_answer}
 
@@ -49,13 +50,13 @@ read_does cells a (Err x) e =
     let no = not_read cells a (refusal_number x) e in
     subst (λ (n : ℕ). Does (idle cells) (reading a) (refused n) (idle cells)) (sym no.1) (reads_no_cell no.0)
 
-pub survey_does : (hand cells : List Word) (chart chart' : List ℕ) (r : Result (ℕ × ℕ) Refusal) → Surveyed hand cells chart r chart' →
+pub survey_does : (hand cells : List Word) (chart chart' : List ℕ) (r : Result Counts Refusal) → Surveyed hand cells chart r chart' →
     Does (idle cells) (survey hand chart) (survey_answer r chart') (idle cells)
 survey_does hand cells chart chart' (Ok counts) s = surveys s.0 s.1
 survey_does hand cells chart chart' (Err e) s =
     subst (λ (n : ℕ). Does (idle cells) (survey hand chart) (refused n) (idle cells)) (sym s.1) (surveys_short s.0)
 
-pub survey_leaves : (hand cells : List Word) (chart chart' : List ℕ) (r : Result (ℕ × ℕ) Refusal) → Surveyed hand cells chart r chart' →
+pub survey_leaves : (hand cells : List Word) (chart chart' : List ℕ) (r : Result Counts Refusal) → Surveyed hand cells chart r chart' →
     chart' ≡ chart_left chart (survey_answer r chart')
 survey_leaves hand cells chart chart' (Ok counts) s = refl
 survey_leaves hand cells chart chart' (Err e) s = s.2

@@ -5,6 +5,7 @@ use Rattle.words.specs.declared.word.Word.{Word as Held}
 use Rattle.words.specs.Refusals.{refusal_number}
 use Rattle.words.specs.Meaning.{meaning}
 use Rattle.model.specs.declared.status.Status.{Status}
+use Rattle.survey.specs.declared.surveying.Counts.{Counts}
 use Rattle.model.specs.Bench.{Answer, done, refused, word, surveyed, outcome}
 
 abbrev pub done_answer : Result (Unit {0}) Refusal → Answer
@@ -16,8 +17,8 @@ word_answer (Ok w) = word (meaning w)
 word_answer (Err e) = refused (refusal_number e)
 
 -- The two counts, with the chart as the call left it.
-abbrev pub survey_answer : Result (ℕ × ℕ) Refusal → List ℕ → Answer
-survey_answer (Ok counts) chart = surveyed counts.0 counts.1 chart
+abbrev pub survey_answer : Result Counts Refusal → List ℕ → Answer
+survey_answer (Ok counts) chart = surveyed counts.marked counts.writable chart
 survey_answer (Err e) chart = refused (refusal_number e)
 
 abbrev pub run_answer : Status × ℕ → Answer

@@ -1,5 +1,5 @@
 -- From marks that are complete to a chart.
-use Rattle.std.proofs.Common.{◌≡◌, ℕ, ◌+◌, ◌-◌, ◌<◌, ◌≤◌, T, ◌≢◌, List, ◌++◌, length, get_or, take, drop, sym, refl, ap, ◌∙◌, subst, arith}
+use Rattle.std.proofs.Common.{rules, ◌≡◌, ℕ, ◌+◌, ◌-◌, ◌<◌, ◌≤◌, T, ◌≢◌, List, ◌++◌, length, get_or, take, drop, sym, refl, ap, ◌∙◌, subst, arith}
 use Rattle.std.proofs.lemmas.List.{get_or_append_left, get_or-append_right, get_or-drop, length-append, length-drop, take_at}
 use Rattle.words.specs.declared.permission.Permission.{Permission}
 use Rattle.words.specs.declared.permission.Permission.TheVariants.{O, RO, RW, RWL, RX, E, RWX, RWLX}
@@ -12,24 +12,10 @@ use Rattle.survey.specs.Levels.{permission_level}
 use Rattle.survey.specs.Progress.{Sound, unmarked, marked, Painted, Complete}
 
 at_least_1 : (q : Permission) → q ≢ O → 1 ≤ permission_level q
-at_least_1 O h = absurd (h refl)
-at_least_1 RO h = omega arith
-at_least_1 RW h = omega arith
-at_least_1 RWL h = omega arith
-at_least_1 RX h = omega arith
-at_least_1 E h = omega arith
-at_least_1 RWX h = omega arith
-at_least_1 RWLX h = omega arith
+at_least_1 q h = search (rules, arith)
 
 at_least_2 : (q : Permission) → T (writes q) → 2 ≤ permission_level q
-at_least_2 O h = absurd h
-at_least_2 RO h = absurd h
-at_least_2 RW h = omega arith
-at_least_2 RWL h = omega arith
-at_least_2 RX h = absurd h
-at_least_2 E h = absurd h
-at_least_2 RWX h = omega arith
-at_least_2 RWLX h = omega arith
+at_least_2 q h = search (rules, arith)
 
 -- the mark that a held capability accounts for is one that the rules account for
 module _ (hand cells : List Word) (a : ℕ) (c : Cap) (held : Held hand cells c) (within : Covers c a) (h : a < length cells) where

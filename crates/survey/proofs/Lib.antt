@@ -1,5 +1,4 @@
 pub mod Listing
-pub mod Counting
 pub mod Raising
 pub mod Skipping
 pub mod Loading

@@ -1,24 +1,21 @@
 -- How a survey stands after one more word was followed.
-use Rattle.std.proofs.Common.{◌≡◌, ℕ, ◌+◌, ◌<◌, ◌≤◌, ◌≢◌, ◌⊎◌, List, length, get_or, sym, refl, ap, ◌∙◌, subst, inl, inr, arith}
+use Rattle.std.proofs.Common.{◌≡◌, ℕ, ◌+◌, ◌<◌, ◌≤◌, ◌≢◌, ◌⊎◌, List, [], ◌∷◌, ◌++◌, length, get_or, sym, refl, ap, ◌∙◌, subst, inl, inr, arith}
 use Rattle.std.proofs.lemmas.Bool.{cases_eq}
 use Rattle.words.specs.declared.permission.Permission.{Permission}
 use Rattle.words.specs.declared.permission.Permission.TheVariants.{O}
 use Rattle.words.specs.Word.{Cap, Word, integer, capability, at}
 use Rattle.model.specs.Survey.{Held, in_hand, in_cell}
 use Rattle.model.proofs.Rows.{exists_at}
-use Rattle.survey.specs.declared.pending.Pending.{Pending}
-use Rattle.survey.specs.declared.search.Search.{Search}
 use Rattle.survey.specs.Levels.{permission_level, word_level, word_base, word_end}
-use Rattle.survey.specs.Pending.{Listed, Taken}
+use Rattle.survey.specs.Pending.{Listed}
 use Rattle.survey.specs.Marking.{Raised}
-use Rattle.survey.specs.Search.{Begun, Ready}
 use Rattle.survey.specs.Progress.{Sound, unmarked, marked, Painted, Progress, Complete}
-use Rattle.survey.proofs.Raising.{blanks_le}
+use Rattle.survey.proofs.Listing.{kept, here, only}
 
 -- no mark, and nothing followed yet
 module _ (hand cells : List Word) (marks : List ℕ) (none : (a : ℕ) → get_or marks a 0 ≡ 0) where
-  pub begun : (p : Pending) → length marks ≡ length cells → p.len ≡ 0 → Progress hand cells 0 marks p
-  begun p long empty = record {
+  pub begun : length marks ≡ length cells → Progress hand cells 0 marks []
+  begun long = record {
     as_long = long;
     sound = λ a. subst (λ (n : ℕ). Sound hand cells a n) (sym (none a)) unmarked;
     listed = λ a l. absurd (omega (arith, l.1));
@@ -26,31 +23,7 @@ module _ (hand cells : List Word) (marks : List ℕ) (none : (a : ℕ) → get_o
     from_cells = λ a c g e. absurd (omega (arith, none a));
   }
 
-pub begun_ready : (marks : List ℕ) (s : Search) → length marks ≤ 65536 → Begun s → Ready marks s
-begun_ready marks s small b = record {
-  room = record { room = omega (arith, b.empty, blanks_le marks); small = small };
-  reached = b.reached marks;
-  writable = b.writable marks;
-}
-
--- a cell less on the list leaves room
-pub taken_ready : {marks : List ℕ} {s t : Search} (a : ℕ) → Ready marks s → Taken s.pending a t.pending → t.reached ≡ s.reached → t.writable ≡ s.writable → Ready marks t
-taken_ready {marks} {s} {t} a r taken e e' = record {
-  room = record { room = omega (arith, r.room.room, taken.shorter); small = r.room.small };
-  reached = rw e r.reached;
-  writable = rw e' r.writable;
-}
-
-pub fewer : {hand cells : List Word} {n : ℕ} {marks : List ℕ} {p : Pending} (m : ℕ) → m ≤ n → Progress hand cells n marks p → Progress hand cells m marks p
-fewer m le r = record {
-  as_long = r.as_long;
-  sound = r.sound;
-  listed = r.listed;
-  from_hand = λ i c h e. r.from_hand i c (omega arith) e;
-  from_cells = r.from_cells;
-}
-
-module _ {k from to : ℕ} {marks marks' : List ℕ} {p p' : Pending} (s : Raised k from to marks p marks' p') where
+module _ {k from to : ℕ} {marks marks' p p' : List ℕ} (s : Raised k from to marks p marks' p') where
   still_painted : (c : Cap) → Painted marks c → Painted marks' c
   still_painted c q a within h = omega (arith, q a within (omega (arith, s.as_long)), s.grows a)
 
@@ -77,10 +50,10 @@ module _ {k from to : ℕ} {marks marks' : List ℕ} {p p' : Pending} (s : Raise
     }
 
 -- a word that was followed
-abbrev Followed : Word → List ℕ → Pending → List ℕ → Pending → Type 0
+abbrev Followed : Word → List ℕ → List ℕ → List ℕ → List ℕ → Type 0
 Followed w marks p marks' p' = Raised (word_level w) (word_base w) (word_end w) marks p marks' p'
 
-its_cells : (w : Word) (c : Cap) {marks marks' : List ℕ} {p p' : Pending} → w ≡ capability c → Followed w marks p marks' p' → Painted marks' c
+its_cells : (w : Word) (c : Cap) {marks marks' p p' : List ℕ} → w ≡ capability c → Followed w marks p marks' p' → Painted marks' c
 its_cells w c {marks} {marks'} {p} {p'} e s =
     let t : Followed (capability c) marks p marks' p' = subst (λ (v : Word). Followed v marks p marks' p') e s in
     λ a within h. t.raised a within.0 within.1 (omega (arith, t.as_long))
@@ -90,7 +63,7 @@ its_right hand cells (integer z) held a l g h = absurd (omega arith)
 its_right hand cells (capability c) held a l g h = marked (held c refl) (l, g) h
 
 -- one more word of the hand
-pub hand_more : {hand cells : List Word} {n : ℕ} {marks marks' : List ℕ} {p p' : Pending} (w : Word) → at hand n ≡ w → Progress hand cells n marks p → Followed w marks p marks' p' → Progress hand cells (n + 1) marks' p'
+pub hand_more : {hand cells : List Word} {n : ℕ} {marks marks' p p' : List ℕ} (w : Word) → at hand n ≡ w → Progress hand cells n marks p → Followed w marks p marks' p' → Progress hand cells (n + 1) marks' p'
 hand_more {hand} {cells} {n} w is r s =
     stands s hand cells (n + 1) r.as_long r.sound r.listed
     (λ i c h e. elim (cases_eq i n) [
@@ -109,23 +82,23 @@ in_marked {hand} {cells} {a} m unmarked g e = absurd (omega arith)
 in_marked {hand} {cells} {a} m (marked {c = via} h within inside) g e = in_cell a h (not_O via.permission g) within e
 
 -- one more cell of the list
-pub cell_more : {hand cells : List Word} {n : ℕ} {marks marks' : List ℕ} {p q p' : Pending} (a : ℕ) (w : Word) → at cells a ≡ w → Progress hand cells n marks p → Taken p a q → Followed w marks q marks' p' → Progress hand cells n marks' p'
-cell_more {hand} {cells} {n} {marks} a w is r t s =
+pub cell_more : {hand cells : List Word} {n : ℕ} {marks marks' q p' : List ℕ} (a : ℕ) (w : Word) → at cells a ≡ w → Progress hand cells n marks (q ++ a ∷ []) → Followed w marks q marks' p' → Progress hand cells n marks' p'
+cell_more {hand} {cells} {n} {marks} {q = q} a w is r s =
     stands s hand cells n r.as_long r.sound
-    (λ x l. r.listed x (t.only x l))
+    (λ x l. r.listed x (kept q a x l))
     (λ i c h e. still_painted s c (r.from_hand i c h e))
     (λ x c g e. elim (r.from_cells x c g e) [
-      | inl l ↦ elim (t.others x l) [
+      | inl l ↦ elim (only q a x l) [
         | inl same ↦ inr (its_cells w c (sym is ∙ ap (λ (y : ℕ). at cells y) (sym same) ∙ e) s)
         | inr l' ↦ inl l'
       ]
       | inr done ↦ inr (still_painted s c done)
     ])
-    (its_right hand cells w (λ c e. in_marked (get_or marks a 0) (r.sound a) (r.listed a t.was) (is ∙ e)))
+    (its_right hand cells w (λ c e. in_marked (get_or marks a 0) (r.sound a) (r.listed a (here q a)) (is ∙ e)))
 
 -- nothing is left on the list
-pub completed : {hand cells : List Word} {marks : List ℕ} {p : Pending} → Progress hand cells (length hand) marks p → p.len ≡ 0 → Complete hand cells marks
-completed {hand} {cells} {marks} {p} r empty = record {
+pub completed : {hand cells : List Word} {marks : List ℕ} → Progress hand cells (length hand) marks [] → Complete hand cells marks
+completed {hand} {cells} {marks} r = record {
   as_long = r.as_long;
   sound = r.sound;
   from_hand = λ i c e. r.from_hand i c (exists_at hand i e) e;

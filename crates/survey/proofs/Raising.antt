@@ -1,33 +1,33 @@
 -- Raising marks: nothing to do, one cell, and one range after another.
-use Rattle.std.proofs.Common.{◌≡◌, ℕ, zero, suc, ◌+◌, ◌<◌, ◌≤◌, ◌⊎◌, List, [], ◌∷◌, length, get_or, set, sym, refl, ap, ◌∙◌, subst, inl, inr, arith}
+use Rattle.std.proofs.Common.{◌≡◌, ◌==◌, ℕ, cond, ◌+◌, ◌<◌, ◌≤◌, ◌⊎◌, List, [], ◌∷◌, ◌++◌, length, get_or, set, sym, refl, ap, ◌∙◌, subst, inl, inr, arith, length-append}
 use Rattle.std.proofs.lemmas.List.{get_or-set_same, get_or-set_other, length-set}
+use Rattle.std.proofs.lemmas.List.Sums.{sum_by-set}
 use Rattle.std.proofs.lemmas.Bool.{cases_eq, cases_lt}
-use Rattle.survey.specs.declared.pending.Pending.{Pending}
-use Rattle.survey.specs.Pending.{Listed, Pushed}
-use Rattle.survey.specs.Marking.{blank, blanks, HasRoom, Raised}
+use Rattle.std.proofs.lemmas.Bool.Decides.{nat_tests}
+use Rattle.std.proofs.lemmas.Grind.{common_steps}
+use Rattle.survey.specs.Pending.{Listed}
+use Rattle.survey.specs.Marking.{blanks, Raised}
+use Rattle.survey.proofs.Listing.{kept, here as there, only as there_only}
 
-blanks_set : (xs : List ℕ) (i y : ℕ) → i < length xs → blanks (set xs i y) + blank (get_or xs i 0) ≡ blanks xs + blank y
-blanks_set [] i y h = absurd (omega arith)
-blanks_set (x ∷ xs) zero y h = omega arith
-blanks_set (x ∷ xs) (suc i) y h = omega (arith, blanks_set xs i y (omega arith))
+-- what a mark adds to the number of cells that are not marked
+abbrev blank : ℕ → ℕ
+blank mark = cond (mark == 0) 1 0
 
-pub blanks_le : (xs : List ℕ) → blanks xs ≤ length xs
-blanks_le [] = omega arith
-blanks_le (zero ∷ xs) = omega (arith, blanks_le xs)
-blanks_le (suc x ∷ xs) = omega (arith, blanks_le xs)
-
-blank_marked : (n : ℕ) → 1 ≤ n → blank n ≡ 0
-blank_marked zero h = absurd (omega arith)
-blank_marked (suc n) h = refl
+marked : (n : ℕ) → 1 ≤ n → blank n ≡ 0
+marked n h = grind (arith, nat_tests)
 
 -- a cell without a mark leaves room for one more
-pub room_left : (marks : List ℕ) (p : Pending) (a : ℕ) → HasRoom marks p → a < length marks → get_or marks a 0 ≡ 0 → p.len < 65536
-room_left marks p a r h e =
+pub room_left : (marks p : List ℕ) (a : ℕ) → length p + blanks marks ≤ length marks → length marks ≤ 65536 → a < length marks → get_or marks a 0 ≡ 0 → length p < 65536
+room_left marks p a room small h e =
     let b : blank (get_or marks a 0) ≡ 1 = ap blank e in
-    omega (arith, r.room, r.small, blanks_set marks a 1 h)
+    omega (arith, sum_by-set blank marks a 1 0 h)
+
+-- what is marked and listed leaves room for what is not
+pub room_kept : {k from to : ℕ} {marks p marks' p' : List ℕ} → Raised k from to marks p marks' p' → length p + blanks marks ≤ length marks → length p' + blanks marks' ≤ length marks'
+room_kept r room = omega (arith, r.balance, r.as_long)
 
 -- nothing changes where all of the range is marked already
-pub nothing_raised : (k from to : ℕ) (marks : List ℕ) (p : Pending) → ((a : ℕ) → from ≤ a → a < to → a < length marks → k ≤ get_or marks a 0) → Raised k from to marks p marks p
+pub nothing_raised : (k from to : ℕ) (marks p : List ℕ) → ((a : ℕ) → from ≤ a → a < to → a < length marks → k ≤ get_or marks a 0) → Raised k from to marks p marks p
 nothing_raised k from to marks p h = record {
   as_long = refl;
   grows = λ a. omega arith;
@@ -45,13 +45,10 @@ module _ (k a : ℕ) (marks : List ℕ) (h : a < length marks) (low : get_or mar
   here = get_or-set_same marks a k 0 h
 
   grows : (x : ℕ) → get_or marks x 0 ≤ get_or (set marks a k) x 0
-  grows x = elim (cases_eq x a) [
-    | inl e ↦ subst (λ (y : ℕ). get_or marks y 0 ≤ get_or (set marks a k) y 0) (sym e) (omega (arith, here))
-    | inr ne ↦ omega (arith, get_or-set_other marks a x k 0 ne)
-  ]
+  grows x = grind (arith, common_steps, here)
 
   raised : (x : ℕ) → a ≤ x → x < a + 1 → x < length marks → k ≤ get_or (set marks a k) x 0
-  raised x l g i = let e : a ≡ x = omega arith in subst (λ (y : ℕ). k ≤ get_or (set marks a k) y 0) e (omega (arith, here))
+  raised x l g i = grind (arith, common_steps, here)
 
   only : (x : ℕ) → (get_or (set marks a k) x 0 ≡ get_or marks x 0) ⊎ ((a ≤ x) × (x < a + 1) × (x < length marks) × (get_or (set marks a k) x 0 ≡ k))
   only x = elim (cases_eq x a) [
@@ -59,27 +56,27 @@ module _ (k a : ℕ) (marks : List ℕ) (h : a < length marks) (low : get_or mar
     | inr ne ↦ inl (get_or-set_other marks a x k 0 ne)
   ]
 
-  pub blank_raised : (p p' : Pending) → get_or marks a 0 ≡ 0 → Pushed p a p' → Raised k a (a + 1) marks p (set marks a k) p'
-  blank_raised p p' e t = record {
+  pub blank_raised : (p : List ℕ) → get_or marks a 0 ≡ 0 → Raised k a (a + 1) marks p (set marks a k) (p ++ a ∷ [])
+  blank_raised p e = record {
     as_long = length-set marks a k;
     grows = grows;
     raised = raised;
     only = only;
-    kept = t.kept;
+    kept = kept p a;
     fresh = λ x z m. elim (cases_eq x a) [
-      | inl same ↦ subst (λ (y : ℕ). Listed p' y) (sym same) t.here
+      | inl same ↦ subst (λ (y : ℕ). Listed (p ++ a ∷ []) y) (sym same) (there p a)
       | inr ne ↦ absurd (omega (arith, get_or-set_other marks a x k 0 ne))
     ];
-    listed = λ x l. elim (t.only x l) [
+    listed = λ x l. elim (there_only p a x l) [
       | inl same ↦ inr (subst (λ (y : ℕ). 1 ≤ get_or (set marks a k) y 0) (sym same) (omega (arith, here)))
       | inr l' ↦ inl l'
     ];
     balance =
         let b : blank (get_or marks a 0) ≡ 1 = ap blank e in
-        omega (arith, t.longer, blanks_set marks a k h, blank_marked k (omega arith));
+        omega (arith, length-append p (a ∷ []), sum_by-set blank marks a k 0 h, marked k (omega arith));
   }
 
-  pub marked_raised : (p : Pending) → 1 ≤ get_or marks a 0 → Raised k a (a + 1) marks p (set marks a k) p
+  pub marked_raised : (p : List ℕ) → 1 ≤ get_or marks a 0 → Raised k a (a + 1) marks p (set marks a k) p
   marked_raised p m = record {
     as_long = length-set marks a k;
     grows = grows;
@@ -91,11 +88,11 @@ module _ (k a : ℕ) (marks : List ℕ) (h : a < length marks) (low : get_or mar
       | inr ne ↦ absurd (omega (arith, get_or-set_other marks a x k 0 ne))
     ];
     listed = λ x l. inl l;
-    balance = omega (arith, blanks_set marks a k h, blank_marked k (omega arith), blank_marked (get_or marks a 0) m);
+    balance = omega (arith, sum_by-set blank marks a k 0 h, marked k (omega arith), marked (get_or marks a 0) m);
   }
 
 -- one range, and then the next
-module _ {k from mid to : ℕ} {m m' m'' : List ℕ} {p p' p'' : Pending} (s : Raised k from mid m p m' p') (t : Raised k mid to m' p' m'' p'') (le : from ≤ mid) (le' : mid ≤ to) where
+module _ {k from mid to : ℕ} {m m' m'' p p' p'' : List ℕ} (s : Raised k from mid m p m' p') (t : Raised k mid to m' p' m'' p'') (le : from ≤ mid) (le' : mid ≤ to) where
   pub and_then : Raised k from to m p m'' p''
   and_then = record {
     as_long = t.as_long ∙ s.as_long;

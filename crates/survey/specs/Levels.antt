@@ -1,8 +1,20 @@
 -- The level at which a word marks cells, and which cells it marks.
-use Rattle.std.specs.Prelude.{ℕ}
+use Rattle.std.specs.Prelude.{ℕ, Some, None, Option}
 use Rattle.words.specs.declared.permission.Permission.{Permission}
 use Rattle.words.specs.declared.permission.Permission.TheVariants.{O, RO, RW, RWL, RX, E, RWX, RWLX}
 use Rattle.words.specs.Word.{Word, integer, capability}
+use Rattle.survey.specs.declared.level.Level.{Level}
+use Rattle.survey.specs.declared.level.Level.TheVariants.{Reached, Writable}
+
+-- The byte of a cell that is marked at a level.
+abbrev pub level_number : Level → ℕ
+level_number Reached = 1
+level_number Writable = 2
+
+-- The same, and 0 for no level.
+abbrev pub level_or_zero : Option Level → ℕ
+level_or_zero None = 0
+level_or_zero (Some level) = level_number level
 
 -- 2 for a permission that writes, else 1, and 0 for O.
 abbrev pub permission_level : Permission → ℕ

@@ -2,6 +2,5 @@ pub mod Levels
 pub mod Pending
 pub mod Skips
 pub mod Marking
-pub mod Search
 pub mod Progress
 pub mod Surveyed

@@ -2,7 +2,6 @@
 use Rattle.std.specs.Prelude.{◌≡◌, ℕ, ◌<◌, ◌≤◌, ◌⊎◌, List, length, slice_index}
 use Rattle.words.specs.Word.{Cap, Word, capability, at, Covers}
 use Rattle.model.specs.Survey.{Held}
-use Rattle.survey.specs.declared.pending.Pending.{Pending}
 use Rattle.survey.specs.Levels.{permission_level}
 use Rattle.survey.specs.Pending.{Listed}
 
@@ -15,8 +14,8 @@ pub data Sound (hand cells : List Word) (a : ℕ) : ℕ → Type 0 where
 abbrev pub Painted : List ℕ → Cap → Type 0
 Painted marks c = (a : ℕ) → Covers c a → a < length marks → permission_level c.permission ≤ slice_index marks a
 
--- Every mark is sound, and n words of the hand were followed. What a marked cell holds was followed, unless the cell is on the list.
-pub record Progress (hand cells : List Word) (n : ℕ) (marks : List ℕ) (p : Pending) : Type 0 where
+-- Every mark is sound, and n words of the hand were followed. What a marked cell holds was followed, unless the cell is on the work list p.
+pub record Progress (hand cells : List Word) (n : ℕ) (marks p : List ℕ) : Type 0 where
   pub as_long : length marks ≡ length cells
   pub sound : (a : ℕ) → Sound hand cells a (slice_index marks a)
   pub listed : (a : ℕ) → Listed p a → 1 ≤ slice_index marks a

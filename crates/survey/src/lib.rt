@@ -1,10 +1,9 @@
 // The survey of a hand: which cells of a memory its holder can reach, and which of them it can write.
 #![tactic(auto)]
 
-mod marking;
-mod pending;
+mod level;
 mod search;
 mod skips;
 mod surveying;
 
-pub use surveying::survey;
+pub use surveying::{Counts, survey};

@@ -3,11 +3,18 @@ ghost use Rattle.groups.specs.Hands.{hand_words};
 ghost use Rattle.survey.specs.Progress.{Complete};
 ghost use Rattle.survey.specs.Surveyed.{Surveyed};
 
-use super::marking::{clear, count};
+use super::level::Level;
 use super::search::Search;
 use groups::{Hand, plain_word};
 use memory::Memory;
 use words::Refusal;
+
+// How many cells a survey has marked: all of them, and those that the holder can write.
+#[derive(Clone, Copy, Debug, PartialEq, Eq)]
+pub struct Counts {
+    pub marked: usize,
+    pub writable: usize,
+}
 
 // Marks each cell that the holder of the hand can reach. Each of them is loaded once, and no cell is marked twice at one level, so that
 // the time, of which no contract speaks, is nearly linear in their number whatever they hold.
@@ -15,25 +22,20 @@ fn mark_reached<M: Memory>(memory: &M, hand: &Hand, marks: &mut [u8])
     requires { (length marks.old ≡ length (M.Memory.row memory.now)) × (length marks.old ≤ 65536) }
     ensures { Complete (hand_words hand.now) (M.Memory.row memory.now) marks.new }
 {
-    clear(marks);
-    let mut search = Search::new();
+    let mut search = Search::new(marks);
     for number in &hand.numbers {
-        search.follow(plain_word(*number), marks);
+        search.follow(plain_word(*number));
     }
-    while let Some(address) = search.pending.pop() {
+    while let Some(address) = search.next_pending() {
         if let Ok(word) = memory.load(address) {
-            search.follow(word, marks);
+            search.follow(word);
         }
     }
 }
 
 // Sets the byte of each cell to 2 if a held capability that writes covers it, else to 1 if one other than O does, else to 0, and gives the number of cells
 // that are marked at all and of those that are marked 2. Bytes past the memory's size stay. A chart that is shorter than the size is refused.
-pub fn survey<M: Memory>(
-    memory: &M,
-    hand: &Hand,
-    chart: &mut [u8],
-) -> Result<(usize, usize), Refusal>
+pub fn survey<M: Memory>(memory: &M, hand: &Hand, chart: &mut [u8]) -> Result<Counts, Refusal>
     ensures { Surveyed (hand_words hand.now) (M.Memory.row memory.now) chart.old result chart.new }
 {
     let size = memory.size();
@@ -42,5 +44,8 @@ pub fn survey<M: Memory>(
     }
     let marks = &mut chart[0..size];
     mark_reached(memory, hand, marks);
-    Ok((count(marks, 1), count(marks, 2)))
+    Ok(Counts {
+        marked: Level::Reached.count(marks),
+        writable: Level::Writable.count(marks),
+    })
 }

@@ -12,7 +12,7 @@ use groups::Hand;
 use machine::Registers;
 use memory::Memory;
 use model::Status;
-use survey::survey;
+use survey::{Counts, survey};
 use words::{Refusal, Word};
 
 impl<M: Memory> Idle<M> {
@@ -49,7 +49,7 @@ impl<M: Memory> Idle<M> {
 
     // Charts what the holder of a hand could reach, and counts it: the cells marked at all, and those marked 2 (writable). Refused where the chart is shorter
     // than the memory's size, and the chart then stays.
-    pub fn survey(&self, hand: &Hand, chart: &mut [u8]) -> Result<(usize, usize), Refusal>
+    pub fn survey(&self, hand: &Hand, chart: &mut [u8]) -> Result<Counts, Refusal>
         ensures lawful { Lawful (idle_of M.Memory.row self.now) (surveying (hand_words hand.now) chart.old) (survey_answer result chart.new) (idle_of M.Memory.row self.now) }
         ensures left { chart.new ≡ chart_left chart.old (survey_answer result chart.new) }
     {
