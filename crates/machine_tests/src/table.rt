@@ -1,6 +1,6 @@
 // Each fault and each instruction at its edges, as one table.
 use groups::{Hand, encode};
-use machine::{Registers, run};
+use machine::{Machine, Outcome, Registers};
 use memory::TableMemory;
 use model::{Fault, Status};
 use words::Refusal;
@@ -1067,10 +1067,12 @@ fn hand(numbers: &[u64; 4]) -> Hand {
 // How the run ended, the steps made, and the word of the case's register.
 fn outcome(case: &Case) -> (Status, u32, Option<u64>) {
     let mut cells = case.cells;
-    let mut memory = TableMemory::new(&mut cells);
-    let mut registers = Registers::from_hand(&hand(&case.registers));
-    let (status, steps) = run(&mut registers, &mut memory, case.budget);
-    let word = registers.read(case.register).ok();
+    let mut machine = Machine {
+        registers: Registers::from(&hand(&case.registers)),
+        memory: TableMemory::new(&mut cells),
+    };
+    let Outcome { status, steps } = machine.run(case.budget);
+    let word = machine.registers.read(case.register).ok();
     (status, steps, word.map(|word| encode(&word)))
 }
 

@@ -3,6 +3,7 @@ use Rattle.std.proofs.Common.{◌*◌, ◌++◌, take, drop, sym, ap, length-app
 use Rattle.std.specs.Result.{result_unwrap_or}
 use Rattle.std.proofs.lemmas.List.{drop-drop, drop_at, take_at}
 use Rattle.words.specs.declared.refusal.Refusal.{Refusal}
+use Rattle.survey.specs.declared.surveying.Counts.{Counts}
 use Rattle.words.specs.declared.word.Word.{Word as Held}
 use Rattle.words.specs.declared.word.Word.TheVariants.{Int}
 use Rattle.words.specs.Refusals.{refusal_number}
@@ -24,7 +25,7 @@ refused_short : {cells hand : List Word} {chart : List ℕ} {n : ℕ} {after : S
 refused_short (surveys_short h) = h
 
 -- A survey on a chart that is long enough counts.
-pub counted : {cells hand : List Word} {chart : List ℕ} {after : State} (left : List ℕ) (r : Result (ℕ × ℕ) Refusal) → length cells ≤ length chart →
+pub counted : {cells hand : List Word} {chart : List ℕ} {after : State} (left : List ℕ) (r : Result Counts Refusal) → length cells ≤ length chart →
     Does (idle cells) (survey hand chart) (survey_answer r left) after → IsOk r
 counted left (Ok counts) long does = search rules
 counted left (Err e) long does = absurd (omega (arith, refused_short does))

@@ -20,9 +20,9 @@ placings words (suc k) history = (placing k (at words k), done) ∷ placings wor
 abbrev pub trial_calls : List Word → List Word → ℕ → List ℕ → List ℕ → Ending → History
 trial_calls words hand budget chart charted ending =
     (closing, done)
-    ∷ (run budget, outcome ending.status ending.steps)
+    ∷ (run budget, outcome ending.outcome.status ending.outcome.steps)
     ∷ (opening hand, done)
-    ∷ (survey hand chart, surveyed ending.marked ending.writable charted)
+    ∷ (survey hand chart, surveyed ending.counts.marked ending.counts.writable charted)
     ∷ placings words (length words) []
 
 -- Those calls, with these answers, lead from a new bench with a cell for each word to an idle bench with the cells `after`, and there the findings stand.

@@ -1,16 +1,16 @@
 ghost use Rattle.std.specs.Prelude.{◌++◌, Some};
 ghost use Rattle.trial.specs.Texts.{place_text, report_text};
 
+use machine::Outcome;
 use model::Status;
 use std::fmt;
+use survey::Counts;
 
-// What a trial came to: the survey's counts, how the visit stood at its end, and the steps made.
+// What a trial came to: the counts of the survey, and the outcome of the run.
 #[derive(Clone, Copy, Debug, PartialEq, Eq)]
 pub struct Ending {
-    pub marked: usize,
-    pub writable: usize,
-    pub status: Status,
-    pub steps: u32,
+    pub counts: Counts,
+    pub outcome: Outcome,
 }
 
 // The report of a trial: what it came to, and the groups of the cells before and after the run.
@@ -23,15 +23,11 @@ pub struct Report<'a, 'b> {
 
 // The lines of the survey, the outcome and the fault, if there is one.
 impl<'a, 'b> fmt::Display for Report<'a, 'b> {
-    ghost output = { λ r. Some (report_text r.ending.marked r.ending.writable r.ending.status r.ending.steps) };
+    ghost output = { λ r. Some (report_text r.ending.counts.marked r.ending.counts.writable r.ending.outcome.status r.ending.outcome.steps) };
 
     fn fmt<W: fmt::Write>(&self, f: &mut fmt::Formatter<W>) -> fmt::Result {
-        let Ending {
-            marked,
-            writable,
-            status,
-            steps,
-        } = self.ending;
+        let Counts { marked, writable } = self.ending.counts;
+        let Outcome { status, steps } = self.ending.outcome;
         match status {
             Status::Running => write!(
                 f,

@@ -37,16 +37,10 @@ fn try_on<M: Memory>(memory: M, groups: &[u8], hand: &Hand, budget: u32) -> (M, 
     place_groups(&mut bench, groups);
     let mut chart = [0u8; MOST_CELLS];
     // not refused, since the chart has a byte for each cell
-    let (marked, writable) = bench.survey(hand, &mut chart).unwrap();
+    let counts = bench.survey(hand, &mut chart).unwrap();
     let mut visit = bench.open(hand);
-    let (status, steps) = visit.run(budget);
-    let ending = Ending {
-        marked,
-        writable,
-        status,
-        steps,
-    };
-    (visit.close().end(), ending)
+    let outcome = visit.run(budget);
+    (visit.close().end(), Ending { counts, outcome })
 }
 
 // A trial of a sheet, on a packed memory in the area.

@@ -13,8 +13,8 @@ place_groups-requires g c =
     let n = length (g.M.Memory.row c.args.memory) in
     omega (arith, packed_length c.args.groups.now, ap length c.make-bench.ensures.cells, length-replicate n zero_word)
 
-pub unwrap-marked-requires : goal.unwrap-marked-requires
-unwrap-marked-requires g c =
+pub unwrap-counts-requires : goal.unwrap-counts-requires
+unwrap-counts-requires g c =
     let n = length (g.M.Memory.row c.args.memory) in
     counted _ c.survey.result (omega (arith, ap length c.make-bench.ensures.cells, length-replicate n zero_word, c.place_groups.ensures.size, c.requires.1))
     c.survey.ensures.lawful.does
@@ -29,10 +29,10 @@ returns g c =
     let row = g.M.Memory.row in
     let count : length c.args.groups.now / 8 ≡ n = omega (arith, packed_length c.args.groups.now, c.requires.0, c.requires.1) in
     let placed = subst (λ (k : ℕ). Leads n (placings words k []) (idle_of row c.place_groups.new.bench)) count (c.place_groups.ensures.placed n [] started) in
-    let survey = rw c.unwrap-marked.ensures at c.survey.ensures.lawful in
+    let survey = rw c.unwrap-counts.ensures at c.survey.ensures.lawful in
     let surveyed = (survey.keeps n _ placed).0 in
     let opened = (c.open-visit.ensures.lawful.keeps n _ surveyed).0 in
-    let ran = (c.run-status.ensures.lawful.keeps n _ opened).0 in
+    let ran = (c.run-outcome.ensures.lawful.keeps n _ opened).0 in
     let closed = c.close.ensures.lawful.keeps n _ ran in
     let left : row c.end.result ≡ row c.close.result.memory = ap row c.end.ensures in
     rw left (record { chart = _; charted = _; leads = closed.0; findings = closed.1 })
