@@ -12,8 +12,7 @@ pub type Part = (Permission, u32, u32);
 // What covers no cell, and so is nothing to a survey.
 const NIL: Part = (O, 0, 0);
 
-// What registers 1 and 15 of a hand hold, and what five cells hold. Then the marks, and how many cells are marked at
-// all and how many 2.
+// What registers 1 and 15 of a hand hold, and what five cells hold. Then the marks, and how many cells are marked at all and how many 2.
 type Picture = ([Part; 2], [Part; 5], [u8; 5], (usize, usize));
 
 const PICTURES: [Picture; 14] = [
