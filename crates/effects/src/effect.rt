@@ -1,13 +1,10 @@
-use model::Fault;
 use words::Word;
 
-// What is left to do of an instruction. All but a jump, a halt and a fault then advance the pc.
-#[derive(Clone, Copy)]
+// What is left to do of an instruction that its checks let pass. All but a jump and a halt then advance the pc.
+#[derive(Clone, Copy, Debug, PartialEq, Eq)]
 pub enum Effect {
     // the word goes into the register
     Put { d: u32, word: Word },
-    // the integer goes into the register
-    PutInteger { d: u32, value: i32 },
     // the cursor of the register moves by the word, with all the checks of that
     Shift { d: u32, by: Word },
     // the word of the cell goes into the register
@@ -19,5 +16,4 @@ pub enum Effect {
     // the word of the register goes into the pc, an E entered
     Jump { d: u32 },
     Halt,
-    Fault(Fault),
 }

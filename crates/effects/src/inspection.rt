@@ -1,15 +1,18 @@
-ghost use Rattle.std.specs.Prelude.{◌≡◌, ◌≤◌};
+#![tactic(auto, unfolding(model::proofs::Checks::rules))]
+
+ghost use Rattle.std.specs.Prelude.{◌≡◌, ◌≤◌, List};
+ghost use Rattle.words.specs.Word.{Word as ModelWord};
 ghost use Rattle.words.specs.Meaning.{cap_of, meaning};
 ghost use Rattle.model.specs.Effects.{testing, inspecting};
-ghost use Rattle.effects.specs.Meant.{Does};
+ghost use Rattle.effects.specs.Meant.{effect_on, Does};
 ghost use Rattle.effects.specs.Parts.{part_of};
 
 use super::effect::Effect;
 use model::Fault;
 use words::{Capability, Word};
 
-// A number that a capability has.
-#[derive(Clone, Copy)]
+// A number that a capability has. An enum, since a function that took the getter as a closure would ask of its callers that it may be called.
+#[derive(Clone, Copy, Debug, PartialEq, Eq)]
 pub enum Part {
     Permission,
     Locality,
@@ -20,25 +23,23 @@ pub enum Part {
 
 // 1 for a capability, 0 for an integer.
 pub fn isptr(d: u32, word: Word) -> Effect
-    ensures { Does result (testing d (meaning word)) }
+    ensures { (r : List ModelWord) → effect_on r result ≡ testing d (meaning word) }
 {
-    match word {
-        Word::Int(_) => Effect::PutInteger { d, value: 0 },
-        Word::Cap(_) => Effect::PutInteger { d, value: 1 },
+    Effect::Put {
+        d,
+        word: Word::Int(i32::from(word.capability().is_some())),
     }
 }
 
 // The instructions getp, getl, getb, gete and geta, by the part that they get.
-pub fn get(d: u32, word: Word, part: Part) -> Effect
+pub fn get(d: u32, word: Word, part: Part) -> Result<Effect, Fault>
     ensures { Does result (inspecting (part_of part) d (meaning word)) }
 {
-    let Word::Cap(c) = word else {
-        return Effect::Fault(Fault::WrongKind);
-    };
-    Effect::PutInteger {
+    let c = word.capability().ok_or(Fault::WrongKind)?;
+    Ok(Effect::Put {
         d,
-        value: number(c, part).cast_signed(),
-    }
+        word: Word::Int(number(c, part).cast_signed()),
+    })
 }
 
 fn number(c: Capability, part: Part) -> u32

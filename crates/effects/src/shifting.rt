@@ -1,3 +1,5 @@
+#![tactic(auto, unfolding(model::proofs::Checks::rules))]
+
 ghost use Rattle.words.specs.Meaning.{meaning};
 ghost use Rattle.effects.specs.Shifts.{Shifts};
 
@@ -8,22 +10,16 @@ use words::Word;
 pub fn lea(word: &mut Word, by: Word) -> Result<(), Fault>
     ensures { Shifts (meaning word.old) (meaning by) result (meaning word.new) }
 {
-    let Word::Cap(c) = *word else {
-        return Err(Fault::WrongKind);
-    };
-    let Word::Int(distance) = by else {
-        return Err(Fault::WrongKind);
-    };
+    let c = word.capability().ok_or(Fault::WrongKind)?;
+    let distance = by.integer().ok_or(Fault::WrongKind)?;
     if c.permission().is_enter() {
         return Err(Fault::NotPermitted);
     }
-    let cursor = i64::from(c.cursor()) + i64::from(distance);
-    if cursor < 0 {
-        return Err(Fault::OutOfRange);
-    }
-    let Ok(moved) = c.with_cursor(cursor as u32) else {
-        return Err(Fault::OutOfRange);
-    };
+    let cursor = c
+        .cursor()
+        .checked_add_signed(distance)
+        .ok_or(Fault::OutOfRange)?;
+    let moved = c.with_cursor(cursor).map_err(|_| Fault::OutOfRange)?;
     *word = Word::Cap(moved);
     Ok(())
 }

@@ -4,7 +4,7 @@ ghost use Rattle.model.specs.Faults.{fault_number};
 use words::Refusal;
 
 // Why a step faults. A fault changes no register and no cell.
-#[derive(Clone, Copy)]
+#[derive(Clone, Copy, Debug, PartialEq, Eq)]
 pub enum Fault {
     // the pc is no capability that executes and covers its cursor
     NotExecutable,

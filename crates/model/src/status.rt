@@ -1,7 +1,7 @@
 use super::fault::Fault;
 
 // How a visit stands.
-#[derive(Clone, Copy)]
+#[derive(Clone, Copy, Debug, PartialEq, Eq)]
 pub enum Status {
     // the next step can be made
     Running,
