@@ -1,4 +1,2 @@
 pub mod Words
-pub mod Landing
-pub mod Performing
 pub mod Ending

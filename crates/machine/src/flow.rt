@@ -1,9 +1,6 @@
-use model::Fault;
-
-// What a step came to. A halt or a fault has changed no register and no cell.
-#[derive(Clone, Copy)]
+// What a step that does not fault came to. A halt has changed no register and no cell.
+#[derive(Clone, Copy, Debug, PartialEq, Eq)]
 pub enum Flow {
     Moved,
     Halted,
-    Faulted(Fault),
 }

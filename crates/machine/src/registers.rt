@@ -1,9 +1,12 @@
+#![tactic(auto, unfolding(model::proofs::Checks::rules))]
+
 ghost use Rattle.std.specs.Prelude.{◌≡◌, replicate, slice_set};
 ghost use Rattle.words.specs.Word.{at, zero_word};
 ghost use Rattle.words.specs.Meaning.{meaning};
 ghost use Rattle.groups.specs.Hands.{hand_words};
 ghost use Rattle.memory.specs.Row.{load_answer};
 ghost use Rattle.model.specs.Effects.{value};
+ghost use Rattle.model.specs.Step.{place_of};
 ghost use Rattle.machine.specs.Files.{file, register_read, Shifted};
 
 use effects::lea;
@@ -13,9 +16,20 @@ use model::Fault;
 use words::{Refusal, Word};
 
 // The words of the sixteen registers; register 0 is the pc. A higher number names none: it reads as the integer 0, and nothing is put there.
-#[derive(Clone, Copy)]
+#[derive(Clone, Copy, Debug, PartialEq, Eq)]
 pub struct Registers {
     words: [Word; 16],
+}
+
+// The words of a hand.
+impl From<&Hand> for Registers {
+    ghost from_gives = { λ hand r. file r ≡ hand_words hand.now };
+
+    fn from(hand: &Hand) -> Registers {
+        Registers {
+            words: hand.numbers.map(|number| plain_word(number)),
+        }
+    }
 }
 
 impl Registers {
@@ -28,25 +42,11 @@ impl Registers {
         }
     }
 
-    // The words of a hand.
-    pub fn from_hand(hand: &Hand) -> Registers
-        ensures { file result ≡ hand_words hand.now }
-    {
-        let mut words = [Word::Int(0); 16];
-        for i in 0..16usize {
-            words[i] = plain_word(hand.numbers[i]);
-        }
-        Registers { words }
-    }
-
     // The word of a register; refused where there is no such register.
     pub fn read(&self, register: usize) -> Result<Word, Refusal>
         ensures { load_answer result ≡ register_read (file self.now) register }
     {
-        if register >= 16 {
-            return Err(Refusal::NoRegister);
-        }
-        Ok(self.words[register])
+        self.words.get(register).copied().ok_or(Refusal::NoRegister)
     }
 
     // The word of register 0.
@@ -60,20 +60,23 @@ impl Registers {
     pub(crate) fn pc_after(&self, number: u32, word: Word) -> Word
         ensures { meaning result ≡ at (slice_set (file self.now) number (meaning word)) 0 }
     {
-        let pc = self.words[0];
-        if number == 0 { word } else { pc }
+        if number == 0 { word } else { self.pc() }
+    }
+
+    // The cursor of the pc, absent where it holds an integer.
+    pub(crate) fn place(&self) -> Option<u32>
+        ensures { result ≡ place_of (at (file self.now) 0) }
+    {
+        self.pc().capability().map(|pc| pc.cursor())
     }
 
     pub(crate) fn get(&self, number: u32) -> Word
         ensures { meaning result ≡ at (file self.now) number }
     {
-        let words: &[Word] = &self.words;
-        let index = number as usize;
-        if index < words.len() {
-            words[index]
-        } else {
-            Word::Int(0)
-        }
+        self.words
+            .get(number as usize)
+            .copied()
+            .unwrap_or(Word::Int(0))
     }
 
     // The word that an operand names.
@@ -89,10 +92,9 @@ impl Registers {
     pub(crate) fn put(&mut self, number: u32, word: Word)
         ensures { file self.new ≡ slice_set (file self.old) number (meaning word) }
     {
-        let words: &mut [Word] = &mut self.words;
         let index = number as usize;
-        if index < words.len() {
-            words[index] = word;
+        if index < self.words.len() {
+            self.words[index] = word;
         }
     }
 

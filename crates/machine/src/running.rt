@@ -1,46 +1,60 @@
+#![tactic(auto, unfolding(model::proofs::Checks::rules))]
+
 ghost use Rattle.std.specs.Prelude.{◌≡◌};
-ghost use Rattle.words.specs.Word.{at};
 ghost use Rattle.model.specs.declared.status.Status.TheVariants.{Running};
-ghost use Rattle.model.specs.Step.{place_of};
+ghost use Rattle.model.specs.Step.{step as stepped};
 ghost use Rattle.model.specs.Run.{Runs};
-ghost use Rattle.machine.specs.Files.{file};
-ghost use Rattle.machine.specs.Flows.{machine};
+ghost use Rattle.machine.specs.Flows.{machine_of, machine_after, flow_of};
 
 use super::flow::Flow;
-use super::registers::Registers;
-use super::stepping::step;
+use super::machine::Machine;
 use memory::Memory;
-use model::Status;
-use words::Word;
+use model::{Fault, Status};
 
-// Makes steps until the budget is spent, or one halts or faults. It gives how the machine then stands, and how many steps were made.
-pub fn run<M: Memory>(registers: &mut Registers, memory: &mut M, budget: u32) -> (Status, u32)
-    ensures runs { Runs budget (machine registers.old (M.Memory.row memory.old)) Running result.1 (machine registers.new (M.Memory.row memory.new)) result.0 }
-    ensures rest { M.Memory.beyond memory.new ≡ M.Memory.beyond memory.old }
-    ensures lent { M.Memory.lent memory.new ≡ M.Memory.lent memory.old }
-{
-    for i in 0..budget {
-        match step(registers, memory) {
-            Flow::Moved => {}
-            Flow::Halted => return (Status::Halted, i + 1),
-            Flow::Faulted(cause) => return (
-                Status::Failed {
-                    cause,
-                    place: place(registers),
-                },
-                i + 1,
-            ),
-        }
-    }
-    (Status::Running, budget)
+// How a run left the machine, and the steps that it made.
+#[derive(Clone, Copy, Debug, PartialEq, Eq)]
+pub struct Outcome {
+    pub status: Status,
+    pub steps: u32,
 }
 
-// The cursor of the pc, absent where it holds an integer.
-fn place(registers: &Registers) -> Option<u32>
-    ensures { result ≡ place_of (at (file registers.now) 0) }
-{
-    match registers.pc() {
-        Word::Int(_) => None,
-        Word::Cap(pc) => Some(pc.cursor()),
+impl<M: Memory> Machine<M> {
+    // One step. A halt or a fault changes no register and no cell.
+    pub fn step(&mut self) -> Result<Flow, Fault>
+        ensures flow { result ≡ flow_of (stepped (machine_of M.Memory.row self.old)) }
+        ensures machine { machine_of M.Memory.row self.new ≡ machine_after (stepped (machine_of M.Memory.row self.old)) (machine_of M.Memory.row self.old) }
+        ensures rest { M.Memory.beyond self.new.memory ≡ M.Memory.beyond self.old.memory }
+        ensures lent { M.Memory.lent self.new.memory ≡ M.Memory.lent self.old.memory }
+    {
+        let effect = self.request()?;
+        self.perform(effect)
+    }
+
+    // Makes steps until the budget is spent, or one halts or faults.
+    pub fn run(&mut self, budget: u32) -> Outcome
+        ensures runs { Runs budget (machine_of M.Memory.row self.old) Running result.steps (machine_of M.Memory.row self.new) result.status }
+        ensures rest { M.Memory.beyond self.new.memory ≡ M.Memory.beyond self.old.memory }
+        ensures lent { M.Memory.lent self.new.memory ≡ M.Memory.lent self.old.memory }
+    {
+        for i in 0..budget {
+            match self.step() {
+                Ok(Flow::Moved) => {}
+                Ok(Flow::Halted) => return Outcome {
+                    status: Status::Halted,
+                    steps: i + 1,
+                },
+                Err(cause) => return Outcome {
+                    status: Status::Failed {
+                        cause,
+                        place: self.registers.place(),
+                    },
+                    steps: i + 1,
+                },
+            }
+        }
+        Outcome {
+            status: Status::Running,
+            steps: budget,
+        }
     }
 }

@@ -1,7 +1,0 @@
-use Rattle.std.proofs.Common.{◌≡◌, map, length, take}
-use Rattle.words.specs.Meaning.{meaning}
-use Rattle.groups.specs.Hands.{hand_words}
-use Rattle.machine.proofs.registers.Registers.from_hand.Given as goal
-
-abbrev pub invariant-loop-i : goal.invariant-loop-i
-invariant-loop-i l = (length l.words ≡ 16) × (take l.i (map meaning l.words) ≡ take l.i (hand_words l.hand))

@@ -1,0 +1,8 @@
+use super::registers::Registers;
+use memory::Memory;
+
+// Sixteen registers, and a memory of any kind.
+pub struct Machine<M: Memory> {
+    pub registers: Registers,
+    pub memory: M,
+}
