@@ -4,7 +4,7 @@ use Rattle.words.specs.declared.refusal.Refusal.{Refusal}
 use Rattle.words.specs.declared.word.Word.{Word as Held}
 use Rattle.words.specs.Refusals.{refusal_number}
 use Rattle.words.specs.Meaning.{meaning}
-use Rattle.model.specs.declared.status.Status.{Status}
+use Rattle.machine.specs.declared.running.Outcome.{Outcome}
 use Rattle.model.specs.Bench.{Answer, done, refused, word, surveyed, outcome}
 
 abbrev pub done_answer : Result (Unit {0}) Refusal → Answer
@@ -20,5 +20,5 @@ abbrev pub survey_answer : Result (ℕ × ℕ) Refusal → List ℕ → Answer
 survey_answer (Ok counts) chart = surveyed counts.0 counts.1 chart
 survey_answer (Err e) chart = refused (refusal_number e)
 
-abbrev pub run_answer : Status × ℕ → Answer
-run_answer r = outcome r.0 r.1
+abbrev pub run_answer : Outcome → Answer
+run_answer r = outcome r.status r.steps

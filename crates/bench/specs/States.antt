@@ -1,7 +1,7 @@
 -- The states of a bench that the benches of the code stand for.
 use Rattle.std.specs.Prelude.{List}
 use Rattle.words.specs.Word.{Word}
-use Rattle.machine.specs.Files.{file}
+use Rattle.machine.specs.Flows.{machine_of}
 use Rattle.model.specs.Bench.{State, idle, visiting}
 use Rattle.bench.specs.declared.states.Idle.{Idle}
 use Rattle.bench.specs.declared.states.Visit.{Visit}
@@ -11,4 +11,4 @@ module _ {M : Type 0} (row : M → List Word) where
   idle_of bench = idle (row bench.memory)
 
   abbrev pub visit_of : Visit M → State
-  visit_of visit = visiting (record { registers = file visit.registers; cells = row visit.memory }) visit.status
+  visit_of visit = visiting (machine_of row visit.machine) visit.status

@@ -1,4 +1,4 @@
-use machine::Registers;
+use machine::Machine;
 use memory::Memory;
 use model::Status;
 
@@ -9,8 +9,7 @@ pub struct Idle<M: Memory> {
 
 // A bench with a visit open: it is run, its registers are read, and it is closed.
 pub struct Visit<M: Memory> {
-    memory: M,
-    registers: Registers,
+    machine: Machine<M>,
     status: Status,
 }
 

@@ -1,6 +1,6 @@
 // Each fault and each instruction at its edges, as one table.
 use groups::{Hand, encode};
-use machine::{Registers, run};
+use machine::{Machine, Outcome, Registers};
 use memory::TableMemory;
 use model::Status;
 
@@ -955,10 +955,12 @@ fn hand(numbers: &[u64; 4]) -> Hand {
 // How the run ended, the steps made, and the word of the case's register.
 fn outcome(case: &Case) -> (End, u32, u64) {
     let mut cells = case.cells;
-    let mut memory = TableMemory::new(&mut cells);
-    let mut registers = Registers::from_hand(&hand(&case.registers));
-    let (status, steps) = run(&mut registers, &mut memory, case.budget);
-    let word = match registers.read(case.register) {
+    let mut machine = Machine {
+        registers: Registers::from(&hand(&case.registers)),
+        memory: TableMemory::new(&mut cells),
+    };
+    let Outcome { status, steps } = machine.run(case.budget);
+    let word = match machine.registers.read(case.register) {
         Ok(word) => encode(&word),
         Err(_) => 0,
     };

@@ -62,14 +62,14 @@ fn try_on<M: Memory>(memory: M, groups: &[u8], hand: &Hand, budget: u32) -> Endi
     let mut chart = [0u8; MOST_CELLS];
     let (marked, writable) = count_reached(&bench, hand, &mut chart);
     let mut visit = bench.open(hand);
-    let (status, steps) = visit.run(budget);
+    let outcome = visit.run(budget);
     let memory = visit.close().end();
     Ending {
         memory,
         marked,
         writable,
-        status,
-        steps,
+        status: outcome.status,
+        steps: outcome.steps,
     }
 }
 

@@ -9,7 +9,7 @@ ghost use Rattle.bench.specs.Answers.{done_answer, word_answer, survey_answer};
 
 use super::{Idle, Visit};
 use groups::Hand;
-use machine::Registers;
+use machine::{Machine, Registers};
 use memory::Memory;
 use model::Status;
 use survey::survey;
@@ -59,12 +59,14 @@ impl<M: Memory> Idle<M> {
     // Opens a visit: the hand's words go into the registers.
     pub fn open(self, hand: &Hand) -> Visit<M>
         ensures lawful { Lawful (idle_of M.Memory.row self) (opening (hand_words hand.now)) done (visit_of M.Memory.row result) }
-        ensures memory { result.memory ≡ self.memory }
+        ensures memory { result.machine.memory ≡ self.memory }
     {
         let Idle { memory } = self;
         Visit {
-            memory,
-            registers: Registers::from_hand(hand),
+            machine: Machine {
+                registers: Registers::from(hand),
+                memory,
+            },
             status: Status::Running,
         }
     }

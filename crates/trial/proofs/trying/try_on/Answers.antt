@@ -31,11 +31,11 @@ returns g c =
     let placed = c.place_groups.ensures.placed n [] started in
     let surveyed = (c.count_reached-marked.ensures.keeps n _ placed).0 in
     let opened = (c.open-visit.ensures.lawful.keeps n _ surveyed).0 in
-    let ran = (c.run-status.ensures.lawful.keeps n _ opened).0 in
+    let ran = (c.run-outcome.ensures.lawful.keeps n _ opened).0 in
     let closed = c.close.ensures.lawful.keeps n _ ran in
     let row = g.M.Memory.row in
     let counts = c.count_reached-marked.result in
-    let outcome = c.run-status.result in
+    let outcome = c.run-outcome.result in
     let left : row c.end-memory.result ≡ row c.close.result.memory = ap row c.end-memory.ensures in
-    subst (λ (cells : List Word). Ends words hand c.args.budget counts.0 counts.1 outcome.0 outcome.1 cells) (sym left)
+    subst (λ (cells : List Word). Ends words hand c.args.budget counts.0 counts.1 outcome.status outcome.steps cells) (sym left)
     (ends words hand c.args.budget _ _ _ _ _ _ n _ (size ∙ c.requires.0) closed)

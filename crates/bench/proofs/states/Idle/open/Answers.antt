@@ -12,6 +12,6 @@ returns g c =
     let hand = hand_words c.args.hand.now in
     record {
       lawful =
-          lawful (subst (λ (r : List Word). Does (idle cells) (opening hand) done (visiting (record { registers = r; cells = cells }) Running)) (sym c.from_hand.ensures) opens);
+          lawful (subst (λ (r : List Word). Does (idle cells) (opening hand) done (visiting (record { registers = r; cells = cells }) Running)) (sym c.from.ensures) opens);
       memory = refl;
     }

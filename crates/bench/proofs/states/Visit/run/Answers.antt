@@ -1,7 +1,6 @@
 use Rattle.std.proofs.Common.{sym, refl, subst}
-use Rattle.machine.specs.Files.{file}
+use Rattle.machine.specs.Flows.{machine_of}
 use Rattle.model.specs.declared.status.Status.{Status}
-use Rattle.model.specs.Machine.{Machine}
 use Rattle.model.specs.Bench.{run, outcome, visiting, Does, runs}
 use Rattle.model.proofs.Stand.{lawful}
 use Rattle.bench.proofs.Calls.{stopped}
@@ -9,21 +8,23 @@ use Rattle.bench.proofs.states.Visit.run.Goals as goal
 
 pub returns-in-Running : goal.returns-in-Running
 returns-in-Running g c =
-    let visit = c.args.self.now in
     let row = g.M.Memory.row in
-    let before : Machine = record { registers = file visit.registers; cells = row visit.memory } in
-    let after : Machine = record { registers = file c.run-status.new.registers; cells = row c.run-status.new.memory } in
-    let r = c.run-status.result in
+    let before = machine_of row c.args.self.now.machine in
+    let after = machine_of row c.run-outcome.new.self in
+    let r = c.run-outcome.result in
     record {
       lawful =
-          lawful (subst (λ (s : Status). Does (visiting before s) (run c.args.budget) (outcome r.0 r.1) (visiting after r.0)) (sym c.in-Running.is)
-          (runs c.run-status.ensures.runs));
-      rest = c.run-status.ensures.rest;
-      lent = c.run-status.ensures.lent;
+          lawful (subst (λ (s : Status). Does (visiting before s) (run c.args.budget) (outcome r.status r.steps) (visiting after r.status)) (sym c.in-Running.is)
+          (runs c.run-outcome.ensures.runs));
+      rest = c.run-outcome.ensures.rest;
+      lent = c.run-outcome.ensures.lent;
     }
 
 pub returns-in_default : goal.returns-in_default
 returns-in_default g c =
     let visit = c.args.self.now in
-    let m : Machine = record { registers = file visit.registers; cells = g.M.Memory.row visit.memory } in
-    record { lawful = lawful (runs (stopped c.args.budget m visit.status c.in_default.not-Running)); rest = refl; lent = refl }
+    record {
+      lawful = lawful (runs (stopped c.args.budget (machine_of g.M.Memory.row visit.machine) visit.status c.in_default.not-Running));
+      rest = refl;
+      lent = refl;
+    }
