@@ -48,7 +48,7 @@ fn obey(registers: &Registers, word: Word) -> Result<Effect, Fault>
     effect(registers, instruction)
 }
 
-// What an instruction does.
+// What an instruction does, one by one, since each reads its own registers.
 fn effect(registers: &Registers, instruction: Instruction) -> Result<Effect, Fault>
     ensures { given_on (file registers.now) result ≡ effects (file registers.now) instruction }
 {

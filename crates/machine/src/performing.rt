@@ -17,6 +17,7 @@ use model::Fault;
 use words::Word;
 
 impl<M: Memory> Machine<M> {
+    // Performs an effect, one by one, since each needs another part of the machine.
     pub(crate) fn perform(&mut self, effect: Effect) -> Result<Flow, Fault>
         ensures flow { Lands (machine_of M.Memory.row self.old) (performed (file self.old.registers) (M.Memory.row self.old.memory) (effect_on (file self.old.registers) effect)) result (machine_of M.Memory.row self.new) }
         ensures rest { M.Memory.beyond self.new.memory ≡ M.Memory.beyond self.old.memory }

@@ -25,6 +25,7 @@ pub struct Registers {
 impl From<&Hand> for Registers {
     ghost from_gives = { λ hand r. file r ≡ hand_words hand.now };
 
+    // A closure, since the name of another crate's function brings no contract.
     fn from(hand: &Hand) -> Registers {
         Registers {
             words: hand.numbers.map(|number| plain_word(number)),
@@ -89,6 +90,7 @@ impl Registers {
         }
     }
 
+    // By its index: what is written through `get_mut` is not known once that borrow is over.
     pub(crate) fn put(&mut self, number: u32, word: Word)
         ensures { file self.new ≡ slice_set (file self.old) number (meaning word) }
     {
@@ -98,7 +100,7 @@ impl Registers {
         }
     }
 
-    // Moves the cursor of one register, which is lent for that.
+    // Moves the cursor of one register, which is lent for that, by its index as in `put`.
     pub(crate) fn shift(&mut self, number: u32, by: Word) -> Result<(), Fault>
         ensures { Shifted (file self.old) number (meaning by) result (file self.new) }
     {

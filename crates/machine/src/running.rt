@@ -37,20 +37,18 @@ impl<M: Memory> Machine<M> {
         ensures lent { M.Memory.lent self.new.memory ≡ M.Memory.lent self.old.memory }
     {
         for i in 0..budget {
-            match self.step() {
-                Ok(Flow::Moved) => {}
-                Ok(Flow::Halted) => return Outcome {
-                    status: Status::Halted,
-                    steps: i + 1,
+            let status = match self.step() {
+                Ok(Flow::Moved) => continue,
+                Ok(Flow::Halted) => Status::Halted,
+                Err(cause) => Status::Failed {
+                    cause,
+                    place: self.registers.place(),
                 },
-                Err(cause) => return Outcome {
-                    status: Status::Failed {
-                        cause,
-                        place: self.registers.place(),
-                    },
-                    steps: i + 1,
-                },
-            }
+            };
+            return Outcome {
+                status,
+                steps: i + 1,
+            };
         }
         Outcome {
             status: Status::Running,
