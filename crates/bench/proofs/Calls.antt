@@ -10,7 +10,7 @@ use Rattle.words.specs.Refusals.{refusal_number}
 use Rattle.words.specs.Meaning.{meaning}
 use Rattle.memory.specs.Row as row
 use Rattle.memory.specs.Row.{load_answer, loaded, store_answer, stored_answer}
-use Rattle.model.specs.Bench.{refused, word, idle, Does, placing, reading, places, places_no_cell, reads_cell, reads_no_cell, survey, surveys, surveys_short, chart_left, visiting, register_reading, reads_register, reads_no_register}
+use Rattle.model.specs.Bench.{refused, word, idle, Does, placing, reading, places, places_no_cell, reads_cell, reads_no_cell, survey, surveys, surveys_short, visiting, register_reading, reads_register, reads_no_register}
 use Rattle.machine.specs.Files.{register_read}
 use Rattle.model.specs.declared.status.Status.{Status}
 use Rattle.model.specs.declared.status.Status.TheVariants.{Running, Halted, Failed}
@@ -55,11 +55,6 @@ pub survey_does : (hand cells : List Word) (chart chart' : List ℕ) (r : Result
 survey_does hand cells chart chart' (Ok counts) s = surveys s.0 s.1
 survey_does hand cells chart chart' (Err e) s =
     subst (λ (n : ℕ). Does (idle cells) (survey hand chart) (refused n) (idle cells)) (sym s.1) (surveys_short s.0)
-
-pub survey_leaves : (hand cells : List Word) (chart chart' : List ℕ) (r : Result Counts Refusal) → Surveyed hand cells chart r chart' →
-    chart' ≡ chart_left chart (survey_answer r chart')
-survey_leaves hand cells chart chart' (Ok counts) s = refl
-survey_leaves hand cells chart chart' (Err e) s = s.2
 
 register_at : (words : List Word) (i : ℕ) (w : Word) → row.given w ≡ register_read words i → (i < 16) × (w ≡ at words i)
 register_at words i w e = grind (arith, nat_tests)

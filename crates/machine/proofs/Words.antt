@@ -1,7 +1,7 @@
 -- A word among words of the code, and the row that they mean.
 use Rattle.std.proofs.Common.{◌≡◌, ℕ, ◌<◌, ◌≤◌, List, map, length, get_or, set, pos, Ok, Err, Result, sym, ap, ◌∙◌, arith}
 use lib.ListN.{length-map}
-use Rattle.std.proofs.lemmas.List.{get_or-map, get_or_past, get_or-set_same, map-set, set_past, set-get_or, same_lists}
+use Rattle.std.proofs.lemmas.List.{get_or-map, get_or-set_same, map-set, set-get_or, same_lists}
 use Rattle.words.specs.declared.word.Word.{Word as Held}
 use Rattle.words.specs.declared.word.Word.TheVariants.{Int}
 use Rattle.words.specs.Word.{Word, zero_word, at}
@@ -12,12 +12,6 @@ use Rattle.model.specs.Machine.{put}
 use Rattle.model.specs.Effects.{shifting}
 use Rattle.effects.specs.Shifts.{Shifts}
 use Rattle.machine.specs.Files.{Shifted}
-
-pub at_past : (words : List Held) (n : ℕ) → length words ≤ n → at (map meaning words) n ≡ zero_word
-at_past words n h = get_or_past (map meaning words) n zero_word (omega (arith, length-map words meaning))
-
-pub put_past : (words : List Held) (n : ℕ) (w : Word) → length words ≤ n → set (map meaning words) n w ≡ map meaning words
-put_past words n w h = set_past (map meaning words) n w (omega (arith, length-map words meaning))
 
 -- a register's cursor moves where the word of that register is changed in place
 pub shifted_at : (words : List Held) (n : ℕ) (by : Word) (r : Result (Unit {0}) Fault) (w w' : Held) → n < length words → Shifts (meaning (get_or words n w)) by r (meaning w') → Shifted (map meaning words) n by r (map meaning (set words n w'))

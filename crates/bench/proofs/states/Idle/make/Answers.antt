@@ -1,13 +1,10 @@
-use Rattle.std.proofs.Common.{◌≡◌, List, length, set, replicate, sym, refl, ap, ◌∙◌, subst, arith}
+use Rattle.std.proofs.Common.{◌≡◌, List, length, set, replicate, sym, ap, ◌∙◌, subst, arith}
 use Rattle.words.specs.Word.{Word, zero_word}
 use Rattle.model.specs.Bench.{idle}
 use Rattle.model.specs.Findings.{Starts}
 use Rattle.model.proofs.Stand.{starts}
 use Rattle.bench.proofs.Fills.{fill_more, fill_all}
 use Rattle.bench.proofs.states.Idle.make.Goals as goal
-
-pub loop-address-init : goal.loop-address-init
-loop-address-init g c = (refl, refl, refl)
 
 pub loop-address-preserved : goal.loop-address-preserved
 loop-address-preserved g c =
@@ -18,15 +15,10 @@ loop-address-preserved g c =
       c.store.ensures.lent ∙ c.loop-address.invariant.2,
     )
 
-pub returns : goal.returns
-returns g c =
+pub returns-clause-starts : goal.returns-clause-starts
+returns-clause-starts g c =
     let d = g.M.Memory.row c.args.memory in
     let i = c.loop-address.address in
     let n : i ≡ length d = omega arith in
     let filled = c.loop-address.invariant.0 ∙ fill_all d i zero_word (omega arith) ∙ ap (λ k. replicate k zero_word) n in
-    record {
-      starts = subst (λ (cells : List Word). Starts (length d) (idle cells)) (sym filled) (starts (length d));
-      cells = filled;
-      rest = c.loop-address.invariant.1;
-      lent = c.loop-address.invariant.2;
-    }
+    subst (λ (cells : List Word). Starts (length d) (idle cells)) (sym filled) (starts (length d))

@@ -3,13 +3,8 @@ use Rattle.model.proofs.Stand.{lawful}
 use Rattle.bench.proofs.Calls.{place_does}
 use Rattle.bench.proofs.states.Idle.place.Goals as goal
 
-pub returns : goal.returns
-returns g c =
+pub returns-clause-lawful : goal.returns-clause-lawful
+returns-clause-lawful g c =
     let row = g.M.Memory.row in
-    record {
-      lawful =
-          lawful (place_does (row c.args.self.now.memory) (row c.store.new.self) c.args.address (meaning c.args.word) c.store.result
-          c.store.ensures.answer c.store.ensures.after);
-      rest = c.store.ensures.rest;
-      lent = c.store.ensures.lent;
-    }
+    lawful (place_does (row c.args.self.now.memory) (row c.store.new.self) c.args.address (meaning c.args.word) c.store.result c.store.ensures.answer
+    c.store.ensures.after)

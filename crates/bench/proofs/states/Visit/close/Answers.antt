@@ -1,7 +1,6 @@
-use Rattle.std.proofs.Common.{refl}
 use Rattle.model.specs.Bench.{closes}
 use Rattle.model.proofs.Stand.{lawful}
 use Rattle.bench.proofs.states.Visit.close.Goals as goal
 
-pub returns : goal.returns
-returns g c = record { lawful = lawful closes; memory = refl }
+pub returns-clause-lawful : goal.returns-clause-lawful
+returns-clause-lawful g c = lawful closes

@@ -6,19 +6,13 @@ use Rattle.model.proofs.Stand.{lawful}
 use Rattle.bench.proofs.Calls.{stopped}
 use Rattle.bench.proofs.states.Visit.run.Goals as goal
 
-pub returns-in-Running : goal.returns-in-Running
-returns-in-Running g c =
-    let row = g.M.Memory.row in
-    let before = machine_of row c.args.self.now.machine in
-    let after = machine_of row c.run-outcome.new.self in
+pub returns-in-Running-clause-lawful : goal.returns-in-Running-clause-lawful
+returns-in-Running-clause-lawful g c =
+    let before = machine_of g.M.Memory.row c.args.self.now.machine in
+    let after = machine_of g.M.Memory.row c.run-outcome.new.self in
     let r = c.run-outcome.result in
-    record {
-      lawful =
-          lawful (subst (λ (s : Status). Does (visiting before s) (run c.args.budget) (outcome r.status r.steps) (visiting after r.status)) (sym c.in-Running.is)
-          (runs c.run-outcome.ensures.runs));
-      rest = c.run-outcome.ensures.rest;
-      lent = c.run-outcome.ensures.lent;
-    }
+    lawful (subst (λ (s : Status). Does (visiting before s) (run c.args.budget) (outcome r.status r.steps) (visiting after r.status)) (sym c.in-Running.is)
+    (runs c.run-outcome.ensures.runs))
 
 pub returns-in_default : goal.returns-in_default
 returns-in_default g c =
