@@ -5,9 +5,10 @@ ghost use Rattle.scanning.specs.Definitions.{given_bytes, definition_given};
 
 use super::lines::{Lines, first_word};
 use super::numerals::{integer, number, register};
+use sheet::MOST_CELLS;
 
-// The most cells that a sheet has.
-const MOST_CELLS: u32 = 2048;
+// The address after the last cell that a sheet can have.
+const LAST: u32 = MOST_CELLS as u32;
 
 // Where a label is defined: the number of the line, counted from 1, and the address of the next cell.
 #[derive(Clone, Copy, Debug, PartialEq, Eq)]
@@ -48,14 +49,10 @@ fn address_after(line: &[u8], address: u32) -> u32
     }
     if first.word == b"at".as_slice() {
         return number(first_word(first.rest).word)
-            .filter(|further| *further <= MOST_CELLS)
+            .filter(|further| *further <= LAST)
             .unwrap_or(address);
     }
-    if address < MOST_CELLS {
-        address + 1
-    } else {
-        address
-    }
+    if address < LAST { address + 1 } else { address }
 }
 
 // Whether a line has the label.
