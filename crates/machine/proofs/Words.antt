@@ -1,5 +1,5 @@
 -- A word among words of the code, and the row that they mean.
-use Rattle.std.proofs.Common.{◌≡◌, ℕ, ◌<◌, ◌≤◌, List, map, length, get_or, set, pos, Ok, Err, Result, sym, ap, ◌∙◌, arith}
+use Rattle.std.proofs.Common.{◌≡◌, ℕ, ◌<◌, List, map, length, get_or, set, pos, Ok, Err, Result, sym, ap, ◌∙◌, arith}
 use lib.ListN.{length-map}
 use Rattle.std.proofs.lemmas.List.{get_or-map, get_or-set_same, map-set, set-get_or, same_lists}
 use Rattle.words.specs.declared.word.Word.{Word as Held}

@@ -13,10 +13,10 @@ pub returns-in-loop-i-clause-runs : goal.returns-in-loop-i-clause-runs
 returns-in-loop-i-clause-runs g c =
     let reached = c.loop-i.invariant.0 in
     elim c.match-step.branch [
-      | in-Ok-Halted w ↦ rw w.status-is (halted_run _ _ _ _ reached c.step.ensures.machine c.args.budget c.loop-i-test.true (cc c.step.ensures.flow))
+      | in-Ok-Halted w ↦ rw w.status-is (halted_run _ _ _ _ reached c.step.ensures.machine c.args.budget (omega arith) (cc c.step.ensures.flow))
       | in-Err w ↦
           rw w.status-is
-          (failed_run _ _ _ _ reached c.step.ensures.machine c.args.budget w.in-Err.cause w.place.result c.loop-i-test.true (cc c.step.ensures.flow)
+          (failed_run _ _ _ _ reached c.step.ensures.machine c.args.budget w.in-Err.cause w.place.result (omega arith) (cc c.step.ensures.flow)
           w.place.ensures)
     ]
 
