@@ -1,5 +1,5 @@
 -- A run, made turn by turn: for a loop that steps a machine and counts.
-use Rattle.std.proofs.Common.{◌≡◌, ℕ, suc, ◌+◌, ◌-◌, ◌<◌, ◌∙◌, subst, add-zero, zero-add, arith}
+use Rattle.std.proofs.Common.{◌≡◌, ℕ, suc, ◌+◌, ◌-◌, ◌<◌, ◌∙◌, subst, add-zero, arith}
 use Rattle.model.specs.declared.fault.Fault.{Fault}
 use Rattle.model.specs.declared.status.Status.{Status}
 use Rattle.model.specs.declared.status.Status.TheVariants.{Running, Halted, Failed}
@@ -10,10 +10,6 @@ use Rattle.model.specs.Run.{Runs, spent, steps_on, step_halts, step_faults}
 -- i steps lead from the machine `start` to the machine m: a run from m is the rest of one from `start`
 pub record After (start : Machine) (i : ℕ) (m : Machine) : Type 0 where
   pub rest : (budget n : ℕ) (m' : Machine) (status : Status) → Runs budget m Running n m' status → Runs (i + budget) start Running (i + n) m' status
-
--- before the first turn
-pub after_none : (m : Machine) → After m 0 m
-after_none m = record { rest = λ budget n m' status r. rw (zero-add budget, zero-add n) r }
 
 -- one step more
 pub after_more : (start : Machine) (i : ℕ) (m m' : Machine) → After start i m → step m ≡ moved m' → After start (i + 1) m'

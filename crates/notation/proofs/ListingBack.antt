@@ -160,10 +160,6 @@ plain_line ls d n line h =
     labelled ls (cond b (Some (without_colon (front (skipped line)))) None) n line
     (parsed_added d (statement_at ls (body b)) (length (skipped (body b))))) h
 
--- A comment adds nothing.
-comment_adds : (ls : List (List ℕ)) (d : Draft) (n : ℕ) (text : List ℕ) → line_added ls d n (59 ∷ text) ≡ added d
-comment_adds ls d n text = refl
-
 abbrev draft : Option ℕ → List Word → List Bool → List Word → Draft
 draft s h g cs = record { steps = s; hand = h; given = g; cells = cs }
 
