@@ -74,10 +74,7 @@ impl Registers {
     pub(crate) fn get(&self, number: u32) -> Word
         ensures { meaning result ≡ at (file self.now) number }
     {
-        self.words
-            .get(number as usize)
-            .copied()
-            .unwrap_or(Word::Int(0))
+        self.read(number as usize).unwrap_or(Word::Int(0))
     }
 
     // The word that an operand names.
