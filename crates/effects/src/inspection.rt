@@ -11,7 +11,7 @@ use super::effect::Effect;
 use model::Fault;
 use words::{Capability, Word};
 
-// A number that a capability has. An enum, since a function that took the getter as a closure would ask of its callers that it may be called.
+// A number that a capability has. An enum: where `get` took a closure, each caller would owe a proof that the closure may be called.
 #[derive(Clone, Copy, Debug, PartialEq, Eq)]
 pub enum Part {
     Permission,

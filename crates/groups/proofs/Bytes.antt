@@ -1,8 +1,7 @@
 -- Eight bytes and the number in them.
-use Rattle.std.proofs.Common.{◌≡◌, ℕ, suc, ◌+◌, ◌*◌, ◌/◌, ◌%◌, ◌^◌, ◌<◌, cond, eqb, List, [], ◌∷◌, length, get_or, drop, None, sym, refl, ap, ◌∙◌, arith, drop-cons}
+use Rattle.std.proofs.Common.{◌≡◌, ℕ, suc, ◌+◌, ◌*◌, ◌/◌, ◌%◌, ◌^◌, ◌<◌, List, [], ◌∷◌, length, get_or, drop, sym, refl, ap, ◌∙◌, arith, drop-cons}
 use Rattle.std.proofs.lemmas.List.{drop_all}
-use Rattle.groups.specs.Packing.{unpacked}
-use Rattle.groups.specs.Groups.{group, number_at, group_word}
+use Rattle.groups.specs.Groups.{group, number_at}
 
 pub number_group : (n : ℕ) → n < 2 ^ 64 → number_at (group n) 0 ≡ n
 number_group n h = omega arith

@@ -7,7 +7,7 @@ ghost use Rattle.groups.specs.Answers.{unpacking, unpacking_of, Unpacks};
 use super::number::{decode, encode};
 use words::{Refusal, Word};
 
-// The eight bytes of a word, most significant first.
+// The eight bytes of a word, most significant first. No From here either, since neither type is this crate's own.
 pub fn pack(word: &Word) -> [u8; 8]
     ensures bytes { result ≡ group (packed (meaning word.now)) }
     ensures back { group_word result ≡ Some (meaning word.now) }

@@ -7,7 +7,7 @@ use super::number::{encode, plain_word};
 use words::{Refusal, Word};
 
 // Sixteen words as plain numbers, one for each register from register 0 (the pc) on: what a visit is opened with. A number that packs no word means
-// integer 0.
+// integer 0. An array, since a hand has sixteen words, no more and no fewer.
 #[derive(Clone, Copy, Debug, PartialEq, Eq)]
 pub struct Hand {
     pub numbers: [u64; 16],

@@ -42,8 +42,8 @@ pub fn decode(number: u64) -> Option<Word>
     ensures value { word_given result ≡ unpacked number }
     ensures exactly { Decodes number result }
 {
-    if number < 1 << 32 {
-        Some(Word::Int((number as u32).cast_signed()))
+    if let Ok(bits) = u32::try_from(number) {
+        Some(Word::Int(bits.cast_signed()))
     } else if number >> 63 == 1 && number % 64 == 0 {
         let held = decode_capability(number)?;
         Some(Word::Cap(held))

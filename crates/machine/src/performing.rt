@@ -44,7 +44,8 @@ impl<M: Memory> Machine<M> {
         self.registers.put_and_advance(d, word)
     }
 
-    // Writes a word into the cell and advances. Nothing is written where the pc cannot advance; that the cell is missing counts first.
+    // Writes a word into the cell and advances. Nothing is written where the pc cannot advance; that the cell is missing counts first. Only then is the cell loaded,
+    // to learn whether it is there: a test before each store would make every step that writes longer.
     fn write(&mut self, address: u32, word: Word) -> Result<(), Fault>
         ensures flow { Goes (machine_of M.Memory.row self.old) (performed (file self.old.registers) (M.Memory.row self.old.memory) (Write address (meaning word))) result (machine_of M.Memory.row self.new) }
         ensures rest { M.Memory.beyond self.new.memory ≡ M.Memory.beyond self.old.memory }

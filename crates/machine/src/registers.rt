@@ -25,7 +25,7 @@ pub struct Registers {
 impl From<&Hand> for Registers {
     ghost from_gives = { λ hand r. file r ≡ hand_words hand.now };
 
-    // A closure, since the name of another crate's function brings no contract.
+    // A closure: of `map(plain_word)` the check knows no contract.
     fn from(hand: &Hand) -> Registers {
         Registers {
             words: hand.numbers.map(|number| plain_word(number)),

@@ -3,6 +3,7 @@
 
 mod joined;
 mod laws;
+mod lent;
 mod memory;
 mod packed;
 mod table;

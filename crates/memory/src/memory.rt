@@ -16,7 +16,8 @@ pub trait Memory {
     // the words, from address 0
     ghost row: { Self → List ModelWord };
 
-    // what else of the borrowed memory there is, which no store touches
+    // what else of the borrowed memory there is, which no store touches; each call that stores says so of its memory before and after, for which an invariant,
+    // which speaks of one state, can't stand
     ghost beyond: { Self → List ℕ };
 
     // the ghost names of the loans that it holds, by which a caller knows what it gets back
@@ -30,7 +31,7 @@ pub trait Memory {
 
     ghost few: { most ≤ 65536 };
 
-    // MOST, for code that has any kind of memory.
+    // MOST, for code that has any kind of memory: `M::MOST` is known to no clause there.
     fn most_cells() -> usize
         ensures { result ≡ most };
 

@@ -10,7 +10,8 @@ use groups::{pack, unpack};
 use words::{Refusal, Word};
 
 // A memory on borrowed bytes, one cell to each full group of eight up to 65,536. A group that packs no word means integer 0; bytes after the last cell are
-// never touched. Not one type with the table over the kind of cell: the bytes after the last full group are no cell, and are given back too.
+// never touched. A type of its own beside the table's: bytes are lent, not cells, so that up to seven of them make no cell, and what one generic type had to
+// say of them would be all that sets the two apart.
 #[derive(Drop)]
 pub struct PackedMemory<'a> {
     bytes: &'a mut [u8],
@@ -112,7 +113,7 @@ impl<'a> Memory for PackedMemory<'a> {
         ensures lent { self.new.bytes.ghost_name ∷ [] ≡ self.old.bytes.ghost_name ∷ [] }
         ensures bytes { self.new.bytes.now ≡ packed_after self.old.bytes.now address (meaning word) }
     {
-        if address >= self.size() {
+        if address >= (*self).size() {
             return Err(Refusal::NoCell);
         }
         write_group(self.bytes, address, &word);

@@ -71,7 +71,7 @@ impl<'a> Memory for TableMemory<'a> {
         ensures lent { self.new.numbers.ghost_name ∷ [] ≡ self.old.numbers.ghost_name ∷ [] }
         ensures numbers { self.new.numbers.now ≡ table_after self.old.numbers.now address (meaning word) }
     {
-        if address >= self.size() {
+        if address >= (*self).size() {
             return Err(Refusal::NoCell);
         }
         self.numbers[address] = encode(&word);

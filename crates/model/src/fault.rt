@@ -35,6 +35,7 @@ pub enum Fault {
 }
 
 impl Fault {
+    // Its number in the table of faults: a match, since an enum that holds a value can't have numbers for variants; and no From, as for refusals.
     pub fn number(self) -> u32
         ensures { result ≡ fault_number self }
     {

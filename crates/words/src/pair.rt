@@ -7,7 +7,7 @@ use super::order::Order;
 use super::permission::Permission;
 
 // Two values that each have an order.
-#[derive(Clone, Copy)]
+#[derive(Clone, Copy, Debug, PartialEq, Eq)]
 pub struct Pair<A: Order, B: Order> {
     pub first: A,
     pub second: B,

@@ -84,7 +84,8 @@ impl From<Permission> for u32 {
     }
 }
 
-// The permission that has a code; refused where none has it. Written out as that of a locality is: a table for both would name as many variants and codes.
+// The permission that has a code; refused where none has it. One such match for permissions and one for localities: a function generic over both would be
+// given each variant with its code all the same.
 impl TryFrom<u32> for Permission {
     type Error = Refusal;
 

@@ -21,6 +21,7 @@ pub enum Refusal {
 }
 
 impl Refusal {
+    // Its number in the table of refusals. A method and no From, since `u32::from` would not say which number of it.
     pub fn number(self) -> u32
         ensures { result ≡ refusal_number self }
     {

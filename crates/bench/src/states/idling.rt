@@ -17,15 +17,15 @@ use words::{Refusal, Word};
 
 impl<M: Memory> Idle<M> {
     // A bench over a memory, with every cell set to integer 0.
-    pub fn make(memory: M) -> Idle<M>
+    pub fn make(mut memory: M) -> Idle<M>
         ensures starts { Starts (length (M.Memory.row memory)) (idle_of M.Memory.row result) }
         ensures cells { M.Memory.row result.memory ≡ replicate (length (M.Memory.row memory)) zero_word }
         ensures rest { M.Memory.beyond result.memory ≡ M.Memory.beyond memory }
         ensures lent { M.Memory.lent result.memory ≡ M.Memory.lent memory }
     {
-        let mut memory = memory;
         let size = memory.size();
         for address in 0..size {
+            // not refused, since there is such a cell
             let _ = memory.store(address, Word::Int(0));
         }
         Idle { memory }

@@ -1,4 +1,4 @@
-ghost use Rattle.std.specs.Prelude.{◌≡◌, ◌≤◌};
+ghost use Rattle.std.specs.Prelude.{◌≡◌, cond, nat_le};
 ghost use Rattle.words.specs.Word.{covers, with_rights};
 ghost use Rattle.words.specs.Orders.{below_capability};
 ghost use Rattle.words.specs.Meaning.{cap_of};
@@ -16,6 +16,16 @@ use crate::refusal::Refusal;
 // The largest base, end and cursor.
 const TOP: u32 = 65536;
 
+// A number that may be a base, an end or a cursor; refused above the largest.
+fn address(number: u32) -> Result<u32, Refusal>
+    ensures { result ≡ cond (nat_le number 65536) (Ok number) (Err Refusal.OutOfRange) }
+{
+    if number > TOP {
+        return Err(Refusal::OutOfRange);
+    }
+    Ok(number)
+}
+
 impl Capability {
     // A capability from plain numbers. A code that is not listed is refused before a number above 65,536.
     pub fn from_numbers(
@@ -32,7 +42,7 @@ impl Capability {
         Capability::new(permission, locality, base, end, cursor)
     }
 
-    // The five parts one by one: a struct of them would be the capability itself.
+    // From its parts. They come one by one, as the rules list them: with a pair for the rights and another for the bounds a caller would write more.
     pub fn new(
         permission: Permission,
         locality: Locality,
@@ -42,15 +52,12 @@ impl Capability {
     ) -> Result<Capability, Refusal>
         ensures { making result ≡ made_with permission locality base end cursor }
     {
-        if base > TOP || end > TOP || cursor > TOP {
-            return Err(Refusal::OutOfRange);
-        }
         Ok(Capability {
             permission,
             locality,
-            base,
-            end,
-            cursor,
+            base: address(base)?,
+            end: address(end)?,
+            cursor: address(cursor)?,
         })
     }
 
@@ -64,10 +71,7 @@ impl Capability {
     pub fn with_cursor(mut self, cursor: u32) -> Result<Capability, Refusal>
         ensures { making result ≡ moved_to (cap_of self) cursor }
     {
-        if cursor > TOP {
-            return Err(Refusal::OutOfRange);
-        }
-        self.cursor = cursor;
+        self.cursor = address(cursor)?;
         Ok(self)
     }
 
@@ -75,11 +79,8 @@ impl Capability {
     pub fn with_bounds(mut self, bounds: Bounds) -> Result<Capability, Refusal>
         ensures { making result ≡ bounded_by (cap_of self) bounds.base bounds.end }
     {
-        if bounds.base > TOP || bounds.end > TOP {
-            return Err(Refusal::OutOfRange);
-        }
-        self.base = bounds.base;
-        self.end = bounds.end;
+        self.base = address(bounds.base)?;
+        self.end = address(bounds.end)?;
         Ok(self)
     }
 

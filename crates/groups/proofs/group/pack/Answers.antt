@@ -1,4 +1,4 @@
-use Rattle.std.proofs.Common.{ap, ◌∙◌, rules}
+use Rattle.std.proofs.Common.{ap, ◌∙◌}
 use Rattle.groups.specs.Packing.{unpacked}
 use Rattle.groups.specs.Groups.{group_word}
 use Rattle.groups.proofs.Bytes.{number_group}
