@@ -1,3 +1,3 @@
 mod Reading
-mod Places
+pub mod Places
 pub mod RoundTrip

@@ -9,9 +9,9 @@ use Rattle.instructions.specs.Packing.{packed, packing_parts, joined, fields_of}
 use Rattle.instructions.proofs.Reading.{Holds}
 
 -- An operand that can be packed.
-record Fits (x : Operand) : Type 0 where
-  register : register_fits x ≡ true
-  constant : constant_fits x ≡ true
+pub record Fits (x : Operand) : Type 0 where
+  pub register : register_fits x ≡ true
+  pub constant : constant_fits x ≡ true
 
 -- The eleven bits of an operand that fits hold it, and eleven bits that hold one are its bits.
 bits_back : (x : Operand) → Fits x → (operand_at (operand_bits x) ≡ Some x) × (operand_bits x < 2 ^ 11)
@@ -25,12 +25,12 @@ bits_there n (Constant (pos m)) l h = (record { register = refl; constant = grin
 bits_there n (Constant (negsuc m)) l h = (record { register = refl; constant = grind (arith, nat_tests) }, grind (arith, nat_tests))
 
 -- Parts that packing accepts.
-record Accepted (p : Parts) : Type 0 where
-  d : p.d ≤ 15
-  a : Fits p.a
-  b : Fits p.b
+pub record Accepted (p : Parts) : Type 0 where
+  pub d : p.d ≤ 15
+  pub a : Fits p.a
+  pub b : Fits p.b
 
-accepted : (p : Parts) (z : ℤ) → packing_parts p ≡ packed z → Accepted p × (z ≡ pos (joined p))
+pub accepted : (p : Parts) (z : ℤ) → packing_parts p ≡ packed z → Accepted p × (z ≡ pos (joined p))
 accepted p z h = (
   record {
     d = grind (arith, nat_tests);

@@ -9,6 +9,8 @@ pub(crate) const FLAG: u32 = 0x400;
 // The largest number of a register.
 pub(crate) const LAST_REGISTER: u32 = 15;
 
+// `to_bits` and `from_bits` are no From and TryFrom: not every operand has bits, a number of eleven bits has no type of its own, and
+// `u32::from(operand)` would not say that bits are meant.
 impl Operand {
     // Whether it names a register that exists, or none.
     pub(crate) fn register_fits(self) -> bool

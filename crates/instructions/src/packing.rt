@@ -6,7 +6,8 @@ use super::operand::LAST_REGISTER;
 use super::parts::Parts;
 use words::Refusal;
 
-// The integer of an instruction: `i32::try_from` would not say that it is the packed form. A register above 15 is refused before a constant outside −512 to 511.
+// The integer of an instruction. A register above 15 is refused before a constant outside −512 to 511.
+// This is a function and no TryFrom, since `i32::try_from(instruction)` would not say that the integer is the packed form.
 pub fn pack(instruction: Instruction) -> Result<i32, Refusal>
     ensures { packing result ≡ packing_of instruction }
 {

@@ -17,11 +17,12 @@ use Rattle.instructions.specs.declared.instruction.Operand.{Operand}
 use Rattle.instructions.specs.declared.instruction.Operand.TheVariants.{Register, Constant}
 use Rattle.instructions.specs.declared.instruction.Instruction.{Instruction}
 use Rattle.instructions.specs.declared.instruction.Instruction.TheVariants.{Fail, Halt, Jmp, Jnz, Move, Load, Store, Plus, Minus, Lt, Lea, Restrict, Subseg, IsPtr, GetP, GetL, GetB, GetE, GetA, Quot}
-use Rattle.instructions.specs.Operands.{in_range, register_fits, constant_fits}
+use Rattle.instructions.specs.Operands.{in_range}
 use Rattle.instructions.specs.declared.parts.Parts.{Parts}
 use Rattle.instructions.specs.Table.{parts_of, form_of, unused}
 use Rattle.instructions.specs.Forms.{made as made_of}
-use Rattle.instructions.specs.Packing.{Packing, packed, packing_of, packing_parts, unpacked}
+use Rattle.instructions.specs.Packing.{Packing, packed, packing_of, unpacked}
+use Rattle.instructions.proofs.Places.{Fits, Accepted, accepted}
 use Rattle.instructions.proofs.RoundTrip.{exactly}
 use Rattle.notation.specs.declared.expected.Expected.{Expected}
 use Rattle.notation.specs.declared.expected.Expected.TheVariants.{Steps, Address, Register as register_expected, Operand as operand_expected, Locality as locality_expected}
@@ -94,11 +95,6 @@ address_read ls n tail h t =
 
 register_read : (n : ℕ) (tail : List ℕ) → n < 16 → Ends tail → register_at (32 ∷ (register_text n ++ tail)) ≡ got n tail
 register_read n tail h t = taken_word register_in n register_expected (register_text n) tail (register_solid n h) t (register_back n h)
-
--- An operand that can be packed.
-record Fits (x : Operand) : Type 0 where
-  register : register_fits x ≡ true
-  constant : constant_fits x ≡ true
 
 constant_small : (z : ℤ) → in_range z ≡ true → fits_word z ≡ true
 constant_small (pos n) h = grind (arith, nat_tests)
@@ -246,19 +242,6 @@ a_read ls true false x tail g f t = absurd g
 a_read ls true true (Register n) tail g f t = ap register_only (register_read n tail (omega (arith, leb-true n 15 f.register)) t)
 a_read ls true true (Constant z) tail g f t = absurd g
 
--- Parts that packing accepts.
-record Accepted (p : Parts) : Type 0 where
-  d : p.d < 16
-  a : Fits p.a
-  b : Fits p.b
-
-accepted : (p : Parts) (z : ℤ) → packing_parts p ≡ packed z → Accepted p
-accepted p z h = record {
-  d = grind (arith, nat_tests);
-  a = record { register = grind arith; constant = grind arith };
-  b = record { register = grind arith; constant = grind arith };
-}
-
 abbrev parts_behind : Parts → List ℕ → List ℕ
 parts_behind p tail =
     part (has_d p.opcode) (register_text p.d) ++ (part (has_a p.opcode) (operand_text p.a)
@@ -275,7 +258,7 @@ parts_read ls p tail left s g t =
     let b_tail = part (has_b p.opcode) (operand_text p.b) ++ tail in
     let a_tail = part (has_a p.opcode) (operand_text p.a) ++ b_tail in
     let a_ends = part_ends (has_a p.opcode) (operand_text p.a) b_tail b_ends in
-    let d = d_read (has_d p.opcode) p.d a_tail s.d a_ends in
+    let d = d_read (has_d p.opcode) p.d a_tail (omega (arith, s.d)) a_ends in
     let a = a_read ls (register_a p.opcode) (has_a p.opcode) p.a b_tail g s.a b_ends in
     let b = b_read ls (has_b p.opcode) p.b tail s.b t in
     simp (d, a, b)
@@ -338,7 +321,7 @@ instruction_reads ls i z tail h t =
     let left = length (name_of i ++ parts_behind (parts_of i) tail) in
     ap (word_at ls) (instruction_split i tail)
     ∙ instruction_begun ls i (parts_behind (parts_of i) tail) (parts_end (parts_of i) tail t)
-    ∙ parts_read ls (parts_of i) tail left (accepted (parts_of i) z h) (row i).agrees t
+    ∙ parts_read ls (parts_of i) tail left (accepted (parts_of i) z h).0 (row i).agrees t
     ∙ ap (λ (o : Option Instruction). instruction_word o tail left) (row i).makes
     ∙ ap (λ (q : Packing). packed_word q tail left) h
 
@@ -450,12 +433,12 @@ no_feed_instruction : (i : Instruction) → Accepted (parts_of i) → NoFeed (in
 no_feed_instruction i s =
     let p = parts_of i in
     no_feed_append (name_of i) _ (no_feed_leads (name_of i) (row i).leading)
-    (no_feed_append (part (has_d p.opcode) (register_text p.d)) _ (no_feed_part (has_d p.opcode) _ (register_solid p.d s.d))
+    (no_feed_append (part (has_d p.opcode) (register_text p.d)) _ (no_feed_part (has_d p.opcode) _ (register_solid p.d (omega (arith, s.d))))
     (no_feed_append (part (has_a p.opcode) (operand_text p.a)) _ (no_feed_part (has_a p.opcode) _ (operand_solid p.a s.a))
     (no_feed_part (has_b p.opcode) _ (operand_solid p.b s.b))))
 
 no_feed_integer : (z : ℤ) (r : Option Instruction) → unpacked z ≡ r → Exists (integer z) → NoFeed (integer_text r z)
-no_feed_integer z (Some i) u h = no_feed_instruction i (accepted (parts_of i) z ((exactly z (unpacked z) refl i).0 u))
+no_feed_integer z (Some i) u h = no_feed_instruction i (accepted (parts_of i) z ((exactly z (unpacked z) refl i).0 u)).0
 no_feed_integer z None u h = no_feed_plain (signed_decimal z) (signed_plain z (word_fits z h))
 
 pub no_feed_cell : (w : Word) → Exists w → NoFeed (cell_text w)
