@@ -22,10 +22,6 @@ room_left marks p a room small h e =
     let b : blank (get_or marks a 0) ≡ 1 = ap blank e in
     omega (arith, sum_by-set blank marks a 1 0 h)
 
--- what is marked and listed leaves room for what is not
-pub room_kept : {k from to : ℕ} {marks p marks' p' : List ℕ} → Raised k from to marks p marks' p' → length p + blanks marks ≤ length marks → length p' + blanks marks' ≤ length marks'
-room_kept r room = omega (arith, r.balance, r.as_long)
-
 -- nothing changes where all of the range is marked already
 pub nothing_raised : (k from to : ℕ) (marks p : List ℕ) → ((a : ℕ) → from ≤ a → a < to → a < length marks → k ≤ get_or marks a 0) → Raised k from to marks p marks p
 nothing_raised k from to marks p h = record {

@@ -5,7 +5,7 @@ ghost use Rattle.survey.specs.Levels.{permission_level, level_number, level_or_z
 use words::Permission;
 
 // How a cell is marked that a held capability covers. The number is its byte; a cell with no mark has 0.
-#[derive(Clone, Copy)]
+#[derive(Clone, Copy, Debug, PartialEq, Eq)]
 pub enum Level {
     Reached = 1,
     Writable = 2,
@@ -23,22 +23,24 @@ impl Level {
         }
     }
 
-    // The byte of a cell that is marked so.
-    pub fn byte(self) -> u8
-        ensures { result ≡ level_number self }
-    {
-        self as u8
-    }
-
     // How many cells are marked at least at this level. A sum of ones, since a filter and its count took a third longer.
     pub fn count(self, marks: &[u8]) -> usize
         requires { length marks.now ≤ 65536 }
         ensures { result ≡ count_from (level_number self) marks.now }
     {
-        let byte = self.byte();
+        let byte = u8::from(self);
         marks
             .iter()
             .map(move |mark| usize::from(*mark >= byte))
             .sum()
+    }
+}
+
+// The byte of a cell that is marked so.
+impl From<Level> for u8 {
+    ghost from_gives = { λ level byte. byte ≡ level_number level };
+
+    fn from(level: Level) -> u8 {
+        level as u8
     }
 }

@@ -13,11 +13,14 @@ use words::{Bounds, Word};
 
 // A search for the cells that a hand reaches. It has the marks, the cells that are marked and whose words are not followed yet, and for each level the skips
 // over cells that are marked so. The list has room for every cell that is not marked yet.
+// Each method says by `same_reference` that the marks stay behind the reference that they came by. No ghost field can: it would speak of one state of a
+// search, and this is of two, before a call and after.
 // Three areas of fixed size, 384 KiB of stack: nothing is allocated, so that no survey fails for want of memory.
 #[derive(Drop)]
 pub struct Search<'a> {
     marks: &'a mut [u8],
     pending: ArrayVec<u16, CELLS>,
+    // Two fields, and `skip` and `note` match on the level: with an array of the two, indexed by the level, a survey of a long chain took a fifth longer.
     reached: Skips,
     writable: Skips,
     ghost small: { length marks.now ≤ 65536 },
@@ -74,7 +77,7 @@ impl<'a> Search<'a> {
     {
         let end = self.marks.len().min(bounds.end as usize);
         let mut address = bounds.base as usize;
-        // no `for` says this loop, since a skip may go over any number of cells
+        // no `for` can express this loop, since a skip may go over any number of cells
         while address < end {
             let next = self.skip(address, level);
             if next > address {
@@ -121,7 +124,7 @@ impl<'a> Search<'a> {
         ensures same_reference { self.new.marks.ghost_name ≡ self.old.marks.ghost_name }
         ensures raised { Raised (level_number level) address (address + 1) self.old.marks.now self.old.pending.items self.new.marks.now self.new.pending.items }
     {
-        let byte = level.byte();
+        let byte = u8::from(level);
         let before = self.marks[address];
         if before < byte {
             self.marks[address] = byte;

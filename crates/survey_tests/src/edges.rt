@@ -14,7 +14,7 @@ fn all_writable(cells: usize) -> Result<Counts, u32> {
     })
 }
 
-// The two counts, or the number of the refusal.
+// The two counts, or the refusal by its number, which is what the rules give it.
 fn answer(numbers: &mut [u64], held: &Hand, chart: &mut [u8]) -> Result<Counts, u32> {
     survey(&TableMemory::new(numbers), held, chart).map_err(Refusal::number)
 }

@@ -1,6 +1,6 @@
-use Rattle.std.proofs.Common.{◌≤◌, get_or, arith}
-use Rattle.survey.proofs.Raising.{room_left, room_kept, blank_raised, marked_raised}
-use Rattle.survey.proofs.Skipping.{still_marked}
+use Rattle.std.proofs.Common.{arith}
+use Rattle.survey.proofs.Raising.{room_left, blank_raised, marked_raised}
+use Rattle.survey.proofs.Skipping.{still_right}
 use Rattle.survey.proofs.search.Search.mark.Goals as goal
 
 pub push-requires : goal.push-requires
@@ -8,30 +8,17 @@ push-requires c = (omega arith, room_left _ _ c.args.address c.args.self.now.roo
 
 pub returns-then-before-eq0-clause-raised : goal.returns-then-before-eq0-clause-raised
 returns-then-before-eq0-clause-raised c =
-    rw (c.push.ensures.items, ← c.byte-byte.ensures)
+    rw (c.push.ensures.items, ← c.from-byte.ensures)
     (blank_raised _ _ _ c.requires c.if-before-byte.true _ c.if-before-eq0.true)
 
 pub returns-else-before-eq0-clause-raised : goal.returns-else-before-eq0-clause-raised
 returns-else-before-eq0-clause-raised c =
-    rw (← c.byte-byte.ensures) (marked_raised _ _ _ c.requires c.if-before-byte.true _ (omega (arith, c.if-before-eq0.false)))
+    rw (← c.from-byte.ensures) (marked_raised _ _ _ c.requires c.if-before-byte.true _ (omega (arith, c.if-before-eq0.false)))
 
 pub invariant_of-self : goal.invariant_of-self
 invariant_of-self c =
-    let r = blank_raised _ _ _ c.requires c.if-before-byte.true c.args.self.now.pending.items c.if-before-eq0.true in
-    let s = c.args.self.now in record {
-      small = omega (arith, s.small, r.as_long);
-      room = rw c.push.ensures.items (room_kept r s.room);
-      reached_marked = still_marked r 1 s.reached s.reached_marked;
-      writable_marked = still_marked r 2 s.writable s.writable_marked;
-    }
+    still_right c.args.self.now
+    (rw (← c.push.ensures.items) at (blank_raised _ _ _ c.requires c.if-before-byte.true c.args.self.now.pending.items c.if-before-eq0.true))
 
 pub invariant_of-self-else-before-eq0 : goal.invariant_of-self-else-before-eq0
-invariant_of-self-else-before-eq0 c =
-    let some : 1 ≤ get_or c.args.self.now.marks.now c.args.address 0 = omega (arith, c.if-before-eq0.false) in
-    let r = marked_raised _ _ _ c.requires c.if-before-byte.true c.args.self.now.pending.items some in
-    let s = c.args.self.now in record {
-      small = omega (arith, s.small, r.as_long);
-      room = room_kept r s.room;
-      reached_marked = still_marked r 1 s.reached s.reached_marked;
-      writable_marked = still_marked r 2 s.writable s.writable_marked;
-    }
+invariant_of-self-else-before-eq0 c = still_right c.args.self.now (marked_raised _ _ _ c.requires c.if-before-byte.true _ (omega (arith, c.if-before-eq0.false)))
