@@ -1,7 +1,9 @@
 -- The listing of a sheet assembles to the sheet.
 use Rattle.std.proofs.Common.{◌≡◌, ℕ, zero, suc, ◌+◌, ◌-◌, ◌*◌, ◌/◌, ◌^◌, ◌<◌, ◌≤◌, Bool, true, false, cond, eqb, ltb, leb, List, [], ◌∷◌, ◌++◌, length, get_or, take, drop, set, replicate, pos, negsuc, Some, None, codes, decimal, Option, sym, refl, ap, ◌∙◌, subst, append_assoc, arith}
 use Rattle.std.specs.Str.{bytes_eq}
+use Rattle.std.specs.List.{All}
 use Rattle.std.proofs.lemmas.List.{append-nil, get_or_at, set_at, length_push}
+use Rattle.std.proofs.lemmas.List.Elements.{All-nil, All-cons, All-head, All-tail, All-append}
 use Rattle.std.proofs.lemmas.Bool.Decides.{nat_tests}
 use Rattle.std.proofs.lemmas.Bool.{lt-ltb, ne_eqb, leb-true, cond_both}
 use Rattle.words.specs.Word.{Word, integer, capability, zero_word, is_zero}
@@ -35,23 +37,15 @@ by_test [] h = tt
 by_test (c ∷ cs) h = let both = cleared (eqb c 10) (clear cs) h in (both.0, by_test cs both.1)
 
 -- Lines that are joined part again.
-abbrev AllNoFeed : List (List ℕ) → Type 0
-AllNoFeed [] = Unit {0}
-AllNoFeed (line ∷ rest) = NoFeed line × AllNoFeed rest
-
 one_line : (line text : List ℕ) → NoFeed line → lines (line ++ (10 ∷ text)) ≡ line ∷ lines text
 one_line [] text h = refl
 one_line (c ∷ cs) text h =
     ap (λ b. cond b ([] ∷ lines (cs ++ (10 ∷ text))) (onto c (lines (cs ++ (10 ∷ text))))) h.0
     ∙ ap (onto c) (one_line cs text h.1)
 
-pub lines_back : (ls : List (List ℕ)) → AllNoFeed ls → lines (joined_lines ls) ≡ ls
+pub lines_back : (ls : List (List ℕ)) → All NoFeed ls → lines (joined_lines ls) ≡ ls
 lines_back [] h = refl
-lines_back (line ∷ rest) h = one_line line (joined_lines rest) h.0 ∙ ap (λ more. line ∷ more) (lines_back rest h.1)
-
-all_append : (ls ms : List (List ℕ)) → AllNoFeed ls → AllNoFeed ms → AllNoFeed (ls ++ ms)
-all_append [] ms h k = k
-all_append (line ∷ rest) ms h k = (h.0, all_append rest ms h.1 k)
+lines_back (line ∷ rest) h = one_line line (joined_lines rest) (All-head NoFeed line rest h) ∙ ap (λ more. line ∷ more) (lines_back rest (All-tail NoFeed line rest h))
 
 -- No line of a listing has a line feed in it.
 count_small : (k : ℕ) (marks : List ℕ) → count_from k marks ≤ length marks
@@ -84,14 +78,14 @@ budget_clear budget small =
 register_clear : (n : ℕ) → n < 2 ^ 64 → NoFeed (register_text n)
 register_clear n small = (refl, no_feed_decimal n small)
 
-hand_clear : (n : ℕ) (hand : List Word) → n + length hand ≤ 16 → AllExist hand → AllNoFeed (hand_lines n hand)
-hand_clear n [] few exist = tt
+hand_clear : (n : ℕ) (hand : List Word) → n + length hand ≤ 16 → AllExist hand → All NoFeed (hand_lines n hand)
+hand_clear n [] few exist = All-nil NoFeed
 hand_clear n (w ∷ ws) few exist =
     let more = hand_clear (n + 1) ws (omega arith) exist.1 in
     let here : NoFeed (register_text n ++ (codes " " ++ word_text w))
     = no_feed_append (register_text n) (codes " " ++ word_text w) (register_clear n (omega arith)) (refl, no_feed_word w exist.0) in
-    cond_both (is_zero w) (hand_lines (n + 1) ws) ((register_text n ++ (codes " " ++ word_text w)) ∷ hand_lines (n + 1) ws) AllNoFeed
-    (λ e. more) (λ e. (here, more))
+    cond_both (is_zero w) (hand_lines (n + 1) ws) ((register_text n ++ (codes " " ++ word_text w)) ∷ hand_lines (n + 1) ws) (All NoFeed)
+    (λ e. more) (λ e. All-cons NoFeed _ _ here more)
 
 reach_clear : (marked size writable : ℕ) → marked < 2 ^ 64 → size < 2 ^ 64 → writable < 2 ^ 64 → NoFeed (reach_line marked size writable)
 reach_clear marked size writable h k l =
@@ -102,15 +96,15 @@ reach_clear marked size writable h k l =
     no_feed_append (codes " cells reached, ") _ (by_test (codes " cells reached, ") refl) (
     no_feed_append (decimal writable) _ (no_feed_decimal writable l) (by_test (codes " writable: # writable, + reached, . apart") refl))))))
 
-picture_clear : (rows a : ℕ) (marks : List ℕ) → a + 64 * rows < 2 ^ 64 → AllNoFeed (picture_rows rows a marks)
-picture_clear zero a marks small = tt
-picture_clear (suc rows) a marks small = (
-  no_feed_append (codes "; ") _ (by_test (codes "; ") refl) (
-      no_feed_append (margin a) _ (margin_clear a) (
-      no_feed_append (decimal a) _ (no_feed_decimal a (omega arith)) (
-      no_feed_append (codes " ") _ (by_test (codes " ") refl) (signs_clear (take 64 marks))))),
-  picture_clear rows (a + 64) (drop 64 marks) (omega arith),
-)
+picture_clear : (rows a : ℕ) (marks : List ℕ) → a + 64 * rows < 2 ^ 64 → All NoFeed (picture_rows rows a marks)
+picture_clear zero a marks small = All-nil NoFeed
+picture_clear (suc rows) a marks small =
+    All-cons NoFeed _ _
+    (no_feed_append (codes "; ") _ (by_test (codes "; ") refl) (
+    no_feed_append (margin a) _ (margin_clear a) (
+    no_feed_append (decimal a) _ (no_feed_decimal a (omega arith)) (
+    no_feed_append (codes " ") _ (by_test (codes " ") refl) (signs_clear (take 64 marks))))))
+    (picture_clear rows (a + 64) (drop 64 marks) (omega arith))
 
 leads_clear : (a n : ℕ) (charts : List (List ℕ)) → n + length charts ≤ 16 → NoFeed (leads_text a n charts)
 leads_clear a n [] few = tt
@@ -128,28 +122,26 @@ comment_clear a m charts small few =
     no_feed_append (mark_name m) _ (name_clear m) (leads_clear a 0 charts (omega arith)))))
 
 cells_clear : (a : ℕ) (cells : List Word) (marks : List ℕ) (charts : List (List ℕ)) → a + length cells < 2 ^ 64 → AllExist cells →
-    length charts ≤ 16 → AllNoFeed (cell_lines a cells marks charts)
-cells_clear a [] marks charts small exist few = tt
-cells_clear a (w ∷ ws) marks charts small exist few = (
-  no_feed_append (cell_text w) _ (no_feed_cell w exist.0) (
-      no_feed_append (padding (length (cell_text w))) _ (refl, spaces_clear (23 - length (cell_text w)))
-      (comment_clear a (get_or marks a 0) charts (omega arith) few)),
-  cells_clear (a + 1) ws marks charts (omega arith) exist.1 few,
-)
+    length charts ≤ 16 → All NoFeed (cell_lines a cells marks charts)
+cells_clear a [] marks charts small exist few = All-nil NoFeed
+cells_clear a (w ∷ ws) marks charts small exist few =
+    All-cons NoFeed _ _
+    (no_feed_append (cell_text w) _ (no_feed_cell w exist.0) (
+    no_feed_append (padding (length (cell_text w))) _ (refl, spaces_clear (23 - length (cell_text w)))
+    (comment_clear a (get_or marks a 0) charts (omega arith) few)))
+    (cells_clear (a + 1) ws marks charts (omega arith) exist.1 few)
 
 listing_clear : (budget : ℕ) (hand cells : List Word) (marks : List ℕ) (charts : List (List ℕ)) → PartsOfSheet budget hand cells →
-    length marks ≤ 2048 → length charts ≤ 16 → AllNoFeed (listing_lines budget hand cells marks charts)
+    length marks ≤ 2048 → length charts ≤ 16 → All NoFeed (listing_lines budget hand cells marks charts)
 listing_clear budget hand cells marks charts parts short few =
     let first = count_small 1 marks in
     let second = count_small 2 marks in
-    let rows : ℕ = (length cells + 63) / 64 in (
-      budget_clear budget parts.small,
-      all_append (hand_lines 0 hand) _ (hand_clear 0 hand (omega arith) parts.hand_exists) (
-        reach_clear (count_from 1 marks) (length cells) (count_from 2 marks) (omega arith) (omega arith) (omega arith),
-        all_append (picture_rows rows 0 marks) _ (picture_clear rows 0 marks (omega arith))
-            (cells_clear 0 cells marks charts (omega arith) parts.cells_exist few),
-      ),
-    )
+    let rows : ℕ = (length cells + 63) / 64 in
+    All-cons NoFeed _ _ (budget_clear budget parts.small) (
+    All-append NoFeed (hand_lines 0 hand) _ (hand_clear 0 hand (omega arith) parts.hand_exists) (
+    All-cons NoFeed _ _ (reach_clear (count_from 1 marks) (length cells) (count_from 2 marks) (omega arith) (omega arith) (omega arith)) (
+    All-append NoFeed (picture_rows rows 0 marks) _ (picture_clear rows 0 marks (omega arith))
+    (cells_clear 0 cells marks charts (omega arith) parts.cells_exist few))))
 
 -- What a line without a label adds is what its statement says.
 plain_line : (ls : List (List ℕ)) (d : Draft) (n : ℕ) (line : List ℕ) → colon_ends (front (skipped line)) ≡ false →

@@ -24,7 +24,7 @@ pub trait Names {
 }
 
 // The names of the instructions, from opcode 1 on.
-pub struct Mnemonics {}
+pub struct Mnemonics;
 
 impl Names for Mnemonics {
     ghost names = { instruction_names };
@@ -38,7 +38,7 @@ impl Names for Mnemonics {
 }
 
 // The names of the permissions, by their codes.
-pub struct PermissionNames {}
+pub struct PermissionNames;
 
 impl Names for PermissionNames {
     ghost names = { permission_names };
@@ -49,7 +49,7 @@ impl Names for PermissionNames {
 }
 
 // The names of the localities, by their codes.
-pub struct LocalityNames {}
+pub struct LocalityNames;
 
 impl Names for LocalityNames {
     ghost names = { locality_names };

@@ -8,7 +8,7 @@ use super::numerals::{integer, number, register};
 use sheet::MOST_CELLS;
 
 // The address after the last cell that a sheet can have.
-const LAST: u32 = MOST_CELLS as u32;
+const END: u32 = MOST_CELLS as u32;
 
 // Where a label is defined: the number of the line, counted from 1, and the address of the next cell.
 #[derive(Clone, Copy, Debug, PartialEq, Eq)]
@@ -42,17 +42,17 @@ fn address_after(line: &[u8], address: u32) -> u32
 {
     let first = first_word(unlabelled(line));
     if first.word.is_empty()
-        || first.word == b"budget".as_slice()
+        || b"budget".as_slice() == first.word
         || register(first.word).is_some()
     {
         return address;
     }
-    if first.word == b"at".as_slice() {
+    if b"at".as_slice() == first.word {
         return number(first_word(first.rest).word)
-            .filter(|further| *further <= LAST)
+            .filter(|further| *further <= END)
             .unwrap_or(address);
     }
-    if address < LAST { address + 1 } else { address }
+    if address < END { address + 1 } else { address }
 }
 
 // Whether a line has the label.

@@ -18,6 +18,7 @@ pub struct FirstLine<'a> {
 }
 
 // The lines of a text, one after the other.
+// An iterator of our own: the items of `split_inclusive` on slices keep the line feed, and no clause of it speaks of `lines`, as the definitions do.
 #[derive(Clone, Debug, Drop)]
 pub struct Lines<'a>(pub &'a [u8]);
 

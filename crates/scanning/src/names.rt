@@ -38,8 +38,8 @@ fn is_reserved(word: &[u8]) -> bool
         || place_of::<PermissionNames>(word).is_some()
         || place_of::<LocalityNames>(word).is_some()
         || is_register_like(word)
-        || word == b"budget".as_slice()
-        || word == b"at".as_slice()
+        || b"budget".as_slice() == word
+        || b"at".as_slice() == word
 }
 
 // Whether a label may have this name.
