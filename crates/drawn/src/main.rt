@@ -1,5 +1,5 @@
 // Reads many sheets from standard input, each after its length in four bytes, most significant first, and prints the number and the report of each. What it
-// prints is compared with what the second implementation prints of the same sheets.
+// prints is compared with what the second implementation prints of the same sheets. At most 4,294,967,295 sheets are read.
 #![tactic(auto)]
 
 ghost use Rattle.std.specs.Prelude.{length};
@@ -31,7 +31,8 @@ impl<'a> Iterator for Sheets<'a> {
 fn main(rt: HostRuntime) -> io::Result<()> {
     let mut input = Vec::new(rt.alloc());
     rt.stdin().read_to_end(&mut input)?;
-    for (index, sheet) in (Sheets { stream: &input }).enumerate() {
+    let sheets = Sheets { stream: &input }.take(u32::MAX as usize);
+    for (index, sheet) in sheets.enumerate() {
         println!(rt; "sheet {index}")?;
         print_trial(&rt, sheet)?;
     }

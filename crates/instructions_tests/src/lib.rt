@@ -194,7 +194,7 @@ mod tests {
         0x2000_0410,
     ];
 
-    // What packing gives: the integer, or else the number of the refusal.
+    // What packing gives: the integer, or else the refusal, by its number, which is what the rules give a refusal.
     fn packed(instruction: Instruction) -> Result<i32, u32> {
         pack(instruction).map_err(|refusal| refusal.number())
     }

@@ -10,8 +10,7 @@ struct Case {
     registers: [u64; 4],
     cells: [u64; 4],
     budget: u32,
-    end: Status,
-    steps: u32,
+    outcome: Outcome,
     register: usize,
     word: u64,
 }
@@ -22,11 +21,13 @@ const CASES: [Case; 89] = [
         registers: [5, 0, 0, 0],
         cells: [0x8000000, 0, 0, 0],
         budget: 9,
-        end: Status::Failed {
-            cause: Fault::NotExecutable,
-            place: None,
+        outcome: Outcome {
+            status: Status::Failed {
+                cause: Fault::NotExecutable,
+                place: None,
+            },
+            steps: 1,
         },
-        steps: 1,
         register: 0,
         word: 5,
     },
@@ -35,11 +36,13 @@ const CASES: [Case; 89] = [
         registers: [0x9000000002000000, 0, 0, 0],
         cells: [0x8000000, 0, 0, 0],
         budget: 9,
-        end: Status::Failed {
-            cause: Fault::NotExecutable,
-            place: Some(0),
+        outcome: Outcome {
+            status: Status::Failed {
+                cause: Fault::NotExecutable,
+                place: Some(0),
+            },
+            steps: 1,
         },
-        steps: 1,
         register: 1,
         word: 0,
     },
@@ -48,11 +51,13 @@ const CASES: [Case; 89] = [
         registers: [0xA800000002000000, 0, 0, 0],
         cells: [0x8000000, 0, 0, 0],
         budget: 9,
-        end: Status::Failed {
-            cause: Fault::NotExecutable,
-            place: Some(0),
+        outcome: Outcome {
+            status: Status::Failed {
+                cause: Fault::NotExecutable,
+                place: Some(0),
+            },
+            steps: 1,
         },
-        steps: 1,
         register: 1,
         word: 0,
     },
@@ -61,11 +66,13 @@ const CASES: [Case; 89] = [
         registers: [0xA000000000800040, 0, 0, 0],
         cells: [0x8000000, 0, 0, 0],
         budget: 9,
-        end: Status::Failed {
-            cause: Fault::NotExecutable,
-            place: Some(1),
+        outcome: Outcome {
+            status: Status::Failed {
+                cause: Fault::NotExecutable,
+                place: Some(1),
+            },
+            steps: 1,
         },
-        steps: 1,
         register: 1,
         word: 0,
     },
@@ -74,11 +81,13 @@ const CASES: [Case; 89] = [
         registers: [0xA000000004800100, 0, 0, 0],
         cells: [0, 0, 0, 0],
         budget: 9,
-        end: Status::Failed {
-            cause: Fault::NoCell(Refusal::NoCell),
-            place: Some(4),
+        outcome: Outcome {
+            status: Status::Failed {
+                cause: Fault::NoCell(Refusal::NoCell),
+                place: Some(4),
+            },
+            steps: 1,
         },
-        steps: 1,
         register: 1,
         word: 0,
     },
@@ -87,11 +96,13 @@ const CASES: [Case; 89] = [
         registers: [0xA000000002000000, 0, 0, 0],
         cells: [0, 0, 0, 0],
         budget: 9,
-        end: Status::Failed {
-            cause: Fault::NoInstruction,
-            place: Some(0),
+        outcome: Outcome {
+            status: Status::Failed {
+                cause: Fault::NoInstruction,
+                place: Some(0),
+            },
+            steps: 1,
         },
-        steps: 1,
         register: 1,
         word: 0,
     },
@@ -100,11 +111,13 @@ const CASES: [Case; 89] = [
         registers: [0xA000000002000000, 0, 0, 0],
         cells: [0xA000000002000000, 0, 0, 0],
         budget: 9,
-        end: Status::Failed {
-            cause: Fault::NoInstruction,
-            place: Some(0),
+        outcome: Outcome {
+            status: Status::Failed {
+                cause: Fault::NoInstruction,
+                place: Some(0),
+            },
+            steps: 1,
         },
-        steps: 1,
         register: 1,
         word: 0,
     },
@@ -113,11 +126,13 @@ const CASES: [Case; 89] = [
         registers: [0xA000000002000000, 0, 0, 0],
         cells: [0x8400000, 0, 0, 0],
         budget: 9,
-        end: Status::Failed {
-            cause: Fault::NoInstruction,
-            place: Some(0),
+        outcome: Outcome {
+            status: Status::Failed {
+                cause: Fault::NoInstruction,
+                place: Some(0),
+            },
+            steps: 1,
         },
-        steps: 1,
         register: 1,
         word: 0,
     },
@@ -126,11 +141,13 @@ const CASES: [Case; 89] = [
         registers: [0xA000000002000000, 5, 0, 0],
         cells: [0x18A00800, 0, 0, 0],
         budget: 9,
-        end: Status::Failed {
-            cause: Fault::WrongKind,
-            place: Some(0),
+        outcome: Outcome {
+            status: Status::Failed {
+                cause: Fault::WrongKind,
+                place: Some(0),
+            },
+            steps: 1,
         },
-        steps: 1,
         register: 1,
         word: 5,
     },
@@ -139,11 +156,13 @@ const CASES: [Case; 89] = [
         registers: [0xA000000002000000, 0xA000000002000000, 0, 0],
         cells: [0x20A00801, 0, 0, 0],
         budget: 9,
-        end: Status::Failed {
-            cause: Fault::WrongKind,
-            place: Some(0),
+        outcome: Outcome {
+            status: Status::Failed {
+                cause: Fault::WrongKind,
+                place: Some(0),
+            },
+            steps: 1,
         },
-        steps: 1,
         register: 1,
         word: 0xA000000002000000,
     },
@@ -152,11 +171,13 @@ const CASES: [Case; 89] = [
         registers: [0xA000000002000000, 5, 0, 0],
         cells: [0x3CA00800, 0, 0, 0],
         budget: 9,
-        end: Status::Failed {
-            cause: Fault::WrongKind,
-            place: Some(0),
+        outcome: Outcome {
+            status: Status::Failed {
+                cause: Fault::WrongKind,
+                place: Some(0),
+            },
+            steps: 1,
         },
-        steps: 1,
         register: 1,
         word: 5,
     },
@@ -170,11 +191,13 @@ const CASES: [Case; 89] = [
         ],
         cells: [0x2C601000, 0, 0, 0],
         budget: 9,
-        end: Status::Failed {
-            cause: Fault::WrongKind,
-            place: Some(0),
+        outcome: Outcome {
+            status: Status::Failed {
+                cause: Fault::WrongKind,
+                place: Some(0),
+            },
+            steps: 1,
         },
-        steps: 1,
         register: 1,
         word: 0xA800000000800000,
     },
@@ -183,11 +206,13 @@ const CASES: [Case; 89] = [
         registers: [0xA000000002000000, 0x8000000002000000, 0, 0],
         cells: [0x18A00800, 0, 0, 0],
         budget: 9,
-        end: Status::Failed {
-            cause: Fault::NotPermitted,
-            place: Some(0),
+        outcome: Outcome {
+            status: Status::Failed {
+                cause: Fault::NotPermitted,
+                place: Some(0),
+            },
+            steps: 1,
         },
-        steps: 1,
         register: 1,
         word: 0x8000000002000000,
     },
@@ -196,11 +221,13 @@ const CASES: [Case; 89] = [
         registers: [0xA000000002000000, 0xA800000002000000, 0, 0],
         cells: [0x18A00800, 0, 0, 0],
         budget: 9,
-        end: Status::Failed {
-            cause: Fault::NotPermitted,
-            place: Some(0),
+        outcome: Outcome {
+            status: Status::Failed {
+                cause: Fault::NotPermitted,
+                place: Some(0),
+            },
+            steps: 1,
         },
-        steps: 1,
         register: 1,
         word: 0xA800000002000000,
     },
@@ -209,11 +236,13 @@ const CASES: [Case; 89] = [
         registers: [0xA000000002000000, 0xA000000002000000, 0, 0],
         cells: [0x1C400800, 0, 0, 0],
         budget: 9,
-        end: Status::Failed {
-            cause: Fault::NotPermitted,
-            place: Some(0),
+        outcome: Outcome {
+            status: Status::Failed {
+                cause: Fault::NotPermitted,
+                place: Some(0),
+            },
+            steps: 1,
         },
-        steps: 1,
         register: 1,
         word: 0xA000000002000000,
     },
@@ -222,11 +251,13 @@ const CASES: [Case; 89] = [
         registers: [0xA000000002000000, 0xA800000002000000, 0, 0],
         cells: [0x2C400800, 0, 0, 0],
         budget: 9,
-        end: Status::Failed {
-            cause: Fault::NotPermitted,
-            place: Some(0),
+        outcome: Outcome {
+            status: Status::Failed {
+                cause: Fault::NotPermitted,
+                place: Some(0),
+            },
+            steps: 1,
         },
-        steps: 1,
         register: 1,
         word: 0xA800000002000000,
     },
@@ -235,11 +266,13 @@ const CASES: [Case; 89] = [
         registers: [0xA000000002000000, 0xA800000002000000, 0, 0],
         cells: [0x34400001, 0, 0, 0],
         budget: 9,
-        end: Status::Failed {
-            cause: Fault::NotPermitted,
-            place: Some(0),
+        outcome: Outcome {
+            status: Status::Failed {
+                cause: Fault::NotPermitted,
+                place: Some(0),
+            },
+            steps: 1,
         },
-        steps: 1,
         register: 1,
         word: 0xA800000002000000,
     },
@@ -248,11 +281,13 @@ const CASES: [Case; 89] = [
         registers: [0xA000000002000000, 0x8800000001000080, 0, 0],
         cells: [0x18A00800, 0, 0, 0],
         budget: 9,
-        end: Status::Failed {
-            cause: Fault::NotCovered,
-            place: Some(0),
+        outcome: Outcome {
+            status: Status::Failed {
+                cause: Fault::NotCovered,
+                place: Some(0),
+            },
+            steps: 1,
         },
-        steps: 1,
         register: 1,
         word: 0x8800000001000080,
     },
@@ -261,11 +296,13 @@ const CASES: [Case; 89] = [
         registers: [0xA000000002000000, 0x8800020001800040, 0, 0],
         cells: [0x18A00800, 0, 0, 0],
         budget: 9,
-        end: Status::Failed {
-            cause: Fault::NotCovered,
-            place: Some(0),
+        outcome: Outcome {
+            status: Status::Failed {
+                cause: Fault::NotCovered,
+                place: Some(0),
+            },
+            steps: 1,
         },
-        steps: 1,
         register: 1,
         word: 0x8800020001800040,
     },
@@ -274,11 +311,13 @@ const CASES: [Case; 89] = [
         registers: [0xA000000002000000, 0x9000030000800080, 0, 0],
         cells: [0x1C400800, 0, 0, 0],
         budget: 9,
-        end: Status::Failed {
-            cause: Fault::NotCovered,
-            place: Some(0),
+        outcome: Outcome {
+            status: Status::Failed {
+                cause: Fault::NotCovered,
+                place: Some(0),
+            },
+            steps: 1,
         },
-        steps: 1,
         register: 1,
         word: 0x9000030000800080,
     },
@@ -287,11 +326,13 @@ const CASES: [Case; 89] = [
         registers: [0xA000000002000000, 0x8800000004800100, 0, 0],
         cells: [0x18A00800, 0, 0, 0],
         budget: 9,
-        end: Status::Failed {
-            cause: Fault::NoCell(Refusal::NoCell),
-            place: Some(0),
+        outcome: Outcome {
+            status: Status::Failed {
+                cause: Fault::NoCell(Refusal::NoCell),
+                place: Some(0),
+            },
+            steps: 1,
         },
-        steps: 1,
         register: 1,
         word: 0x8800000004800100,
     },
@@ -300,11 +341,13 @@ const CASES: [Case; 89] = [
         registers: [0xA000000002000000, 0x9000000004800100, 0, 0],
         cells: [0x1C400800, 0, 0, 0],
         budget: 9,
-        end: Status::Failed {
-            cause: Fault::NoCell(Refusal::NoCell),
-            place: Some(0),
+        outcome: Outcome {
+            status: Status::Failed {
+                cause: Fault::NoCell(Refusal::NoCell),
+                place: Some(0),
+            },
+            steps: 1,
         },
-        steps: 1,
         register: 1,
         word: 0x9000000004800100,
     },
@@ -318,11 +361,13 @@ const CASES: [Case; 89] = [
         ],
         cells: [0x1C601000, 0, 0, 0],
         budget: 9,
-        end: Status::Failed {
-            cause: Fault::LocalNotStorable,
-            place: Some(0),
+        outcome: Outcome {
+            status: Status::Failed {
+                cause: Fault::LocalNotStorable,
+                place: Some(0),
+            },
+            steps: 1,
         },
-        steps: 1,
         register: 1,
         word: 0x90000000020000C0,
     },
@@ -336,11 +381,13 @@ const CASES: [Case; 89] = [
         ],
         cells: [0x1C601000, 0, 0, 0],
         budget: 9,
-        end: Status::Failed {
-            cause: Fault::LocalNotStorable,
-            place: Some(0),
+        outcome: Outcome {
+            status: Status::Failed {
+                cause: Fault::LocalNotStorable,
+                place: Some(0),
+            },
+            steps: 1,
         },
-        steps: 1,
         register: 1,
         word: 0x9000000004800100,
     },
@@ -349,11 +396,13 @@ const CASES: [Case; 89] = [
         registers: [0xA000000002000000, 0x7FFFFFFF, 0, 0],
         cells: [0x20600801, 0, 0, 0],
         budget: 9,
-        end: Status::Failed {
-            cause: Fault::OutOfRange,
-            place: Some(0),
+        outcome: Outcome {
+            status: Status::Failed {
+                cause: Fault::OutOfRange,
+                place: Some(0),
+            },
+            steps: 1,
         },
-        steps: 1,
         register: 1,
         word: 0x7FFFFFFF,
     },
@@ -362,11 +411,13 @@ const CASES: [Case; 89] = [
         registers: [0xA000000002000000, 0x80000000, 0, 0],
         cells: [0x24600801, 0, 0, 0],
         budget: 9,
-        end: Status::Failed {
-            cause: Fault::OutOfRange,
-            place: Some(0),
+        outcome: Outcome {
+            status: Status::Failed {
+                cause: Fault::OutOfRange,
+                place: Some(0),
+            },
+            steps: 1,
         },
-        steps: 1,
         register: 1,
         word: 0x80000000,
     },
@@ -375,11 +426,13 @@ const CASES: [Case; 89] = [
         registers: [0xA000000002000000, 0x80000000, 0, 0],
         cells: [0x50600BFF, 0, 0, 0],
         budget: 9,
-        end: Status::Failed {
-            cause: Fault::OutOfRange,
-            place: Some(0),
+        outcome: Outcome {
+            status: Status::Failed {
+                cause: Fault::OutOfRange,
+                place: Some(0),
+            },
+            steps: 1,
         },
-        steps: 1,
         register: 1,
         word: 0x80000000,
     },
@@ -388,11 +441,13 @@ const CASES: [Case; 89] = [
         registers: [0xA000000002000000, 0x8800000000BFFFC0, 0, 0],
         cells: [0x2C401000, 0, 0, 0],
         budget: 9,
-        end: Status::Failed {
-            cause: Fault::OutOfRange,
-            place: Some(0),
+        outcome: Outcome {
+            status: Status::Failed {
+                cause: Fault::OutOfRange,
+                place: Some(0),
+            },
+            steps: 1,
         },
-        steps: 1,
         register: 1,
         word: 0x8800000000BFFFC0,
     },
@@ -401,11 +456,13 @@ const CASES: [Case; 89] = [
         registers: [0xA000000002000000, 0x8800000000800000, 0, 0],
         cells: [0x2C5FF800, 0, 0, 0],
         budget: 9,
-        end: Status::Failed {
-            cause: Fault::OutOfRange,
-            place: Some(0),
+        outcome: Outcome {
+            status: Status::Failed {
+                cause: Fault::OutOfRange,
+                place: Some(0),
+            },
+            steps: 1,
         },
-        steps: 1,
         register: 1,
         word: 0x8800000000800000,
     },
@@ -414,11 +471,13 @@ const CASES: [Case; 89] = [
         registers: [0xA000000002000000, 0x8800000000800000, 0, 0],
         cells: [0x345FF801, 0, 0, 0],
         budget: 9,
-        end: Status::Failed {
-            cause: Fault::OutOfRange,
-            place: Some(0),
+        outcome: Outcome {
+            status: Status::Failed {
+                cause: Fault::OutOfRange,
+                place: Some(0),
+            },
+            steps: 1,
         },
-        steps: 1,
         register: 1,
         word: 0x8800000000800000,
     },
@@ -427,11 +486,13 @@ const CASES: [Case; 89] = [
         registers: [0xA000000002000000, 0x8800008000000000, 65537, 0],
         cells: [0x34400402, 0, 0, 0],
         budget: 9,
-        end: Status::Failed {
-            cause: Fault::OutOfRange,
-            place: Some(0),
+        outcome: Outcome {
+            status: Status::Failed {
+                cause: Fault::OutOfRange,
+                place: Some(0),
+            },
+            steps: 1,
         },
-        steps: 1,
         register: 1,
         word: 0x8800008000000000,
     },
@@ -440,11 +501,13 @@ const CASES: [Case; 89] = [
         registers: [0xA000000002000000, 0x8800000000800000, 0, 0],
         cells: [0x30404000, 0, 0, 0],
         budget: 9,
-        end: Status::Failed {
-            cause: Fault::NotBelow,
-            place: Some(0),
+        outcome: Outcome {
+            status: Status::Failed {
+                cause: Fault::NotBelow,
+                place: Some(0),
+            },
+            steps: 1,
         },
-        steps: 1,
         register: 1,
         word: 0x8800000000800000,
     },
@@ -453,11 +516,13 @@ const CASES: [Case; 89] = [
         registers: [0xA000000002000000, 0x8A00000000800000, 0, 0],
         cells: [0x30402000, 0, 0, 0],
         budget: 9,
-        end: Status::Failed {
-            cause: Fault::NotBelow,
-            place: Some(0),
+        outcome: Outcome {
+            status: Status::Failed {
+                cause: Fault::NotBelow,
+                place: Some(0),
+            },
+            steps: 1,
         },
-        steps: 1,
         register: 1,
         word: 0x8A00000000800000,
     },
@@ -466,11 +531,13 @@ const CASES: [Case; 89] = [
         registers: [0xA000000002000000, 0x8800010001000000, 0, 0],
         cells: [0x34400002, 0, 0, 0],
         budget: 9,
-        end: Status::Failed {
-            cause: Fault::NotBelow,
-            place: Some(0),
+        outcome: Outcome {
+            status: Status::Failed {
+                cause: Fault::NotBelow,
+                place: Some(0),
+            },
+            steps: 1,
         },
-        steps: 1,
         register: 1,
         word: 0x8800010001000000,
     },
@@ -479,11 +546,13 @@ const CASES: [Case; 89] = [
         registers: [0xA000000002000000, 5, 0, 0],
         cells: [0x50600800, 0, 0, 0],
         budget: 9,
-        end: Status::Failed {
-            cause: Fault::ZeroDivisor,
-            place: Some(0),
+        outcome: Outcome {
+            status: Status::Failed {
+                cause: Fault::ZeroDivisor,
+                place: Some(0),
+            },
+            steps: 1,
         },
-        steps: 1,
         register: 1,
         word: 5,
     },
@@ -492,11 +561,13 @@ const CASES: [Case; 89] = [
         registers: [0xA000000002000000, 0, 0, 0],
         cells: [0x4000000, 0, 0, 0],
         budget: 9,
-        end: Status::Failed {
-            cause: Fault::OrderedFail,
-            place: Some(0),
+        outcome: Outcome {
+            status: Status::Failed {
+                cause: Fault::OrderedFail,
+                place: Some(0),
+            },
+            steps: 1,
         },
-        steps: 1,
         register: 1,
         word: 0,
     },
@@ -505,11 +576,13 @@ const CASES: [Case; 89] = [
         registers: [0xA000000002000000, 0, 0, 0],
         cells: [0x14002800, 0, 0, 0],
         budget: 9,
-        end: Status::Failed {
-            cause: Fault::CannotAdvance,
-            place: Some(0),
+        outcome: Outcome {
+            status: Status::Failed {
+                cause: Fault::CannotAdvance,
+                place: Some(0),
+            },
+            steps: 1,
         },
-        steps: 1,
         register: 0,
         word: 0xA000000002000000,
     },
@@ -518,11 +591,13 @@ const CASES: [Case; 89] = [
         registers: [0xA000000002000000, 0xA000000002400000, 0, 0],
         cells: [0x14200800, 0, 0, 0],
         budget: 9,
-        end: Status::Failed {
-            cause: Fault::CannotAdvance,
-            place: Some(0),
+        outcome: Outcome {
+            status: Status::Failed {
+                cause: Fault::CannotAdvance,
+                place: Some(0),
+            },
+            steps: 1,
         },
-        steps: 1,
         register: 0,
         word: 0xA000000002000000,
     },
@@ -531,11 +606,13 @@ const CASES: [Case; 89] = [
         registers: [0xA000000002000000, 65536, 0, 0],
         cells: [0x2C200800, 0, 0, 0],
         budget: 9,
-        end: Status::Failed {
-            cause: Fault::CannotAdvance,
-            place: Some(0),
+        outcome: Outcome {
+            status: Status::Failed {
+                cause: Fault::CannotAdvance,
+                place: Some(0),
+            },
+            steps: 1,
         },
-        steps: 1,
         register: 0,
         word: 0xA000000002000000,
     },
@@ -544,11 +621,13 @@ const CASES: [Case; 89] = [
         registers: [0xA000000002000000, 0x9000000000800000, 0, 0],
         cells: [0x30401000, 0, 0, 0],
         budget: 9,
-        end: Status::Failed {
-            cause: Fault::UnknownPair,
-            place: Some(0),
+        outcome: Outcome {
+            status: Status::Failed {
+                cause: Fault::UnknownPair,
+                place: Some(0),
+            },
+            steps: 1,
         },
-        steps: 1,
         register: 1,
         word: 0x9000000000800000,
     },
@@ -557,11 +636,13 @@ const CASES: [Case; 89] = [
         registers: [0xA000000002000000, 0x9000000000800000, 0, 0],
         cells: [0x30410000, 0, 0, 0],
         budget: 9,
-        end: Status::Failed {
-            cause: Fault::UnknownPair,
-            place: Some(0),
+        outcome: Outcome {
+            status: Status::Failed {
+                cause: Fault::UnknownPair,
+                place: Some(0),
+            },
+            steps: 1,
         },
-        steps: 1,
         register: 1,
         word: 0x9000000000800000,
     },
@@ -570,11 +651,13 @@ const CASES: [Case; 89] = [
         registers: [0xA000000002000000, 0x9000000000800000, 0, 0],
         cells: [0x305FF800, 0, 0, 0],
         budget: 9,
-        end: Status::Failed {
-            cause: Fault::UnknownPair,
-            place: Some(0),
+        outcome: Outcome {
+            status: Status::Failed {
+                cause: Fault::UnknownPair,
+                place: Some(0),
+            },
+            steps: 1,
         },
-        steps: 1,
         register: 1,
         word: 0x9000000000800000,
     },
@@ -583,8 +666,10 @@ const CASES: [Case; 89] = [
         registers: [0xA000000002000000, 0, 0, 0],
         cells: [0x8000000, 0, 0, 0],
         budget: 9,
-        end: Status::Halted,
-        steps: 1,
+        outcome: Outcome {
+            status: Status::Halted,
+            steps: 1,
+        },
         register: 0,
         word: 0xA000000002000000,
     },
@@ -593,8 +678,10 @@ const CASES: [Case; 89] = [
         registers: [0xA000000002000000, 0x92000100010000C0, 0, 0],
         cells: [0x14A00800, 0, 0, 0],
         budget: 1,
-        end: Status::Running,
-        steps: 1,
+        outcome: Outcome {
+            status: Status::Running,
+            steps: 1,
+        },
         register: 2,
         word: 0x92000100010000C0,
     },
@@ -603,8 +690,10 @@ const CASES: [Case; 89] = [
         registers: [0xA000000002000000, 0, 0, 0],
         cells: [0x14900000, 0, 0, 0],
         budget: 1,
-        end: Status::Running,
-        steps: 1,
+        outcome: Outcome {
+            status: Status::Running,
+            steps: 1,
+        },
         register: 2,
         word: 0xFFFFFE00,
     },
@@ -613,8 +702,10 @@ const CASES: [Case; 89] = [
         registers: [0xA000000002000000, 0, 0, 0],
         cells: [0x14A00000, 0, 0, 0],
         budget: 1,
-        end: Status::Running,
-        steps: 1,
+        outcome: Outcome {
+            status: Status::Running,
+            steps: 1,
+        },
         register: 2,
         word: 0xA000000002000000,
     },
@@ -623,8 +714,10 @@ const CASES: [Case; 89] = [
         registers: [0xA000000002000000, 0x8800000000800000, 0, 0],
         cells: [0x18A00800, 0, 0, 0],
         budget: 1,
-        end: Status::Running,
-        steps: 1,
+        outcome: Outcome {
+            status: Status::Running,
+            steps: 1,
+        },
         register: 2,
         word: 0x18A00800,
     },
@@ -633,8 +726,10 @@ const CASES: [Case; 89] = [
         registers: [0xA000000002000000, 2, 0, 0],
         cells: [0x20A00BFD, 0, 0, 0],
         budget: 1,
-        end: Status::Running,
-        steps: 1,
+        outcome: Outcome {
+            status: Status::Running,
+            steps: 1,
+        },
         register: 2,
         word: 0xFFFFFFFF,
     },
@@ -643,8 +738,10 @@ const CASES: [Case; 89] = [
         registers: [0xA000000002000000, 0xFFFFFFFB, 0, 0],
         cells: [0x24801401, 0, 0, 0],
         budget: 1,
-        end: Status::Running,
-        steps: 1,
+        outcome: Outcome {
+            status: Status::Running,
+            steps: 1,
+        },
         register: 2,
         word: 7,
     },
@@ -653,8 +750,10 @@ const CASES: [Case; 89] = [
         registers: [0xA000000002000000, 0, 0, 0],
         cells: [0x289FF800, 0, 0, 0],
         budget: 1,
-        end: Status::Running,
-        steps: 1,
+        outcome: Outcome {
+            status: Status::Running,
+            steps: 1,
+        },
         register: 2,
         word: 1,
     },
@@ -663,8 +762,10 @@ const CASES: [Case; 89] = [
         registers: [0xA000000002000000, 0, 0, 0],
         cells: [0x28801803, 0, 0, 0],
         budget: 1,
-        end: Status::Running,
-        steps: 1,
+        outcome: Outcome {
+            status: Status::Running,
+            steps: 1,
+        },
         register: 2,
         word: 0,
     },
@@ -673,8 +774,10 @@ const CASES: [Case; 89] = [
         registers: [0xA000000002000000, 0, 0, 0],
         cells: [0x50803802, 0, 0, 0],
         budget: 1,
-        end: Status::Running,
-        steps: 1,
+        outcome: Outcome {
+            status: Status::Running,
+            steps: 1,
+        },
         register: 2,
         word: 4,
     },
@@ -683,8 +786,10 @@ const CASES: [Case; 89] = [
         registers: [0xA000000002000000, 0, 0, 0],
         cells: [0x509FC802, 0, 0, 0],
         budget: 1,
-        end: Status::Running,
-        steps: 1,
+        outcome: Outcome {
+            status: Status::Running,
+            steps: 1,
+        },
         register: 2,
         word: 0xFFFFFFFC,
     },
@@ -693,8 +798,10 @@ const CASES: [Case; 89] = [
         registers: [0xA000000002000000, 0, 0, 0],
         cells: [0x50802802, 0, 0, 0],
         budget: 1,
-        end: Status::Running,
-        steps: 1,
+        outcome: Outcome {
+            status: Status::Running,
+            steps: 1,
+        },
         register: 2,
         word: 3,
     },
@@ -703,8 +810,10 @@ const CASES: [Case; 89] = [
         registers: [0xA000000002000000, 0, 0, 0],
         cells: [0x509FD802, 0, 0, 0],
         budget: 1,
-        end: Status::Running,
-        steps: 1,
+        outcome: Outcome {
+            status: Status::Running,
+            steps: 1,
+        },
         register: 2,
         word: 0xFFFFFFFD,
     },
@@ -713,8 +822,10 @@ const CASES: [Case; 89] = [
         registers: [0xA000000002000000, 0, 0, 0],
         cells: [0x50802BFE, 0, 0, 0],
         budget: 1,
-        end: Status::Running,
-        steps: 1,
+        outcome: Outcome {
+            status: Status::Running,
+            steps: 1,
+        },
         register: 2,
         word: 0xFFFFFFFD,
     },
@@ -723,8 +834,10 @@ const CASES: [Case; 89] = [
         registers: [0xA000000002000000, 0, 0, 0],
         cells: [0x509FDBFE, 0, 0, 0],
         budget: 1,
-        end: Status::Running,
-        steps: 1,
+        outcome: Outcome {
+            status: Status::Running,
+            steps: 1,
+        },
         register: 2,
         word: 3,
     },
@@ -733,8 +846,10 @@ const CASES: [Case; 89] = [
         registers: [0xA000000002000000, 0, 0, 0],
         cells: [0x50800803, 0, 0, 0],
         budget: 1,
-        end: Status::Running,
-        steps: 1,
+        outcome: Outcome {
+            status: Status::Running,
+            steps: 1,
+        },
         register: 2,
         word: 0,
     },
@@ -743,8 +858,10 @@ const CASES: [Case; 89] = [
         registers: [0xA000000002000000, 0, 0, 0],
         cells: [0x50801003, 0, 0, 0],
         budget: 1,
-        end: Status::Running,
-        steps: 1,
+        outcome: Outcome {
+            status: Status::Running,
+            steps: 1,
+        },
         register: 2,
         word: 1,
     },
@@ -753,8 +870,10 @@ const CASES: [Case; 89] = [
         registers: [0xA000000002000000, 0, 0, 0],
         cells: [0x509FF003, 0, 0, 0],
         budget: 1,
-        end: Status::Running,
-        steps: 1,
+        outcome: Outcome {
+            status: Status::Running,
+            steps: 1,
+        },
         register: 2,
         word: 0xFFFFFFFF,
     },
@@ -763,8 +882,10 @@ const CASES: [Case; 89] = [
         registers: [0xA000000002000000, 0, 0, 0],
         cells: [0x508003F7, 0, 0, 0],
         budget: 1,
-        end: Status::Running,
-        steps: 1,
+        outcome: Outcome {
+            status: Status::Running,
+            steps: 1,
+        },
         register: 2,
         word: 0,
     },
@@ -773,8 +894,10 @@ const CASES: [Case; 89] = [
         registers: [0xA000000002000000, 0, 0, 0],
         cells: [0x508FF801, 0, 0, 0],
         budget: 1,
-        end: Status::Running,
-        steps: 1,
+        outcome: Outcome {
+            status: Status::Running,
+            steps: 1,
+        },
         register: 2,
         word: 511,
     },
@@ -783,8 +906,10 @@ const CASES: [Case; 89] = [
         registers: [0xA000000002000000, 0x80000000, 0, 0],
         cells: [0x50A00801, 0, 0, 0],
         budget: 1,
-        end: Status::Running,
-        steps: 1,
+        outcome: Outcome {
+            status: Status::Running,
+            steps: 1,
+        },
         register: 2,
         word: 0x80000000,
     },
@@ -793,8 +918,10 @@ const CASES: [Case; 89] = [
         registers: [0xA000000002000000, 0x8200000000BFFFC0, 0, 0],
         cells: [0x2C400800, 0, 0, 0],
         budget: 1,
-        end: Status::Running,
-        steps: 1,
+        outcome: Outcome {
+            status: Status::Running,
+            steps: 1,
+        },
         register: 1,
         word: 0x8200000000C00000,
     },
@@ -803,8 +930,10 @@ const CASES: [Case; 89] = [
         registers: [0xA000000002000000, 0x80000900008000C0, 0, 0],
         cells: [0x2C5FE800, 0, 0, 0],
         budget: 1,
-        end: Status::Running,
-        steps: 1,
+        outcome: Outcome {
+            status: Status::Running,
+            steps: 1,
+        },
         register: 1,
         word: 0x8000090000800000,
     },
@@ -813,8 +942,10 @@ const CASES: [Case; 89] = [
         registers: [0xA000000002000000, 0xA0000100010000C0, 0, 0],
         cells: [0x3040A800, 0, 0, 0],
         budget: 1,
-        end: Status::Running,
-        steps: 1,
+        outcome: Outcome {
+            status: Status::Running,
+            steps: 1,
+        },
         register: 1,
         word: 0xAA000100010000C0,
     },
@@ -823,8 +954,10 @@ const CASES: [Case; 89] = [
         registers: [0xA000000002000000, 0xA8000100010000C0, 0, 0],
         cells: [0x30400000, 0, 0, 0],
         budget: 1,
-        end: Status::Running,
-        steps: 1,
+        outcome: Outcome {
+            status: Status::Running,
+            steps: 1,
+        },
         register: 1,
         word: 0x80000100010000C0,
     },
@@ -833,8 +966,10 @@ const CASES: [Case; 89] = [
         registers: [0xA000000002000000, 0x9200010002000240, 0, 0],
         cells: [0x34401003, 0, 0, 0],
         budget: 1,
-        end: Status::Running,
-        steps: 1,
+        outcome: Outcome {
+            status: Status::Running,
+            steps: 1,
+        },
         register: 1,
         word: 0x9200020001800240,
     },
@@ -843,8 +978,10 @@ const CASES: [Case; 89] = [
         registers: [0xA000000002000000, 0x9200010002000240, 0, 0],
         cells: [0x34402001, 0, 0, 0],
         budget: 1,
-        end: Status::Running,
-        steps: 1,
+        outcome: Outcome {
+            status: Status::Running,
+            steps: 1,
+        },
         register: 1,
         word: 0x9200040000800240,
     },
@@ -853,8 +990,10 @@ const CASES: [Case; 89] = [
         registers: [0xA000000002000000, 0xA000000002000000, 0, 0],
         cells: [0x38A00800, 0, 0, 0],
         budget: 1,
-        end: Status::Running,
-        steps: 1,
+        outcome: Outcome {
+            status: Status::Running,
+            steps: 1,
+        },
         register: 2,
         word: 1,
     },
@@ -863,8 +1002,10 @@ const CASES: [Case; 89] = [
         registers: [0xA000000002000000, 0, 0, 0],
         cells: [0x38804800, 0, 0, 0],
         budget: 1,
-        end: Status::Running,
-        steps: 1,
+        outcome: Outcome {
+            status: Status::Running,
+            steps: 1,
+        },
         register: 2,
         word: 0,
     },
@@ -873,8 +1014,10 @@ const CASES: [Case; 89] = [
         registers: [0xA000000002000000, 0xBA00030002800240, 0, 0],
         cells: [0x3CA00800, 0, 0, 0],
         budget: 1,
-        end: Status::Running,
-        steps: 1,
+        outcome: Outcome {
+            status: Status::Running,
+            steps: 1,
+        },
         register: 2,
         word: 7,
     },
@@ -883,8 +1026,10 @@ const CASES: [Case; 89] = [
         registers: [0xA000000002000000, 0xBA00030002800240, 0, 0],
         cells: [0x40A00800, 0, 0, 0],
         budget: 1,
-        end: Status::Running,
-        steps: 1,
+        outcome: Outcome {
+            status: Status::Running,
+            steps: 1,
+        },
         register: 2,
         word: 1,
     },
@@ -893,8 +1038,10 @@ const CASES: [Case; 89] = [
         registers: [0xA000000002000000, 0xBA00030002800240, 0, 0],
         cells: [0x44A00800, 0, 0, 0],
         budget: 1,
-        end: Status::Running,
-        steps: 1,
+        outcome: Outcome {
+            status: Status::Running,
+            steps: 1,
+        },
         register: 2,
         word: 3,
     },
@@ -903,8 +1050,10 @@ const CASES: [Case; 89] = [
         registers: [0xA000000002000000, 0xBA00030002800240, 0, 0],
         cells: [0x48A00800, 0, 0, 0],
         budget: 1,
-        end: Status::Running,
-        steps: 1,
+        outcome: Outcome {
+            status: Status::Running,
+            steps: 1,
+        },
         register: 2,
         word: 5,
     },
@@ -913,8 +1062,10 @@ const CASES: [Case; 89] = [
         registers: [0xA000000002000000, 0xBA00030002800240, 0, 0],
         cells: [0x4CA00800, 0, 0, 0],
         budget: 1,
-        end: Status::Running,
-        steps: 1,
+        outcome: Outcome {
+            status: Status::Running,
+            steps: 1,
+        },
         register: 2,
         word: 9,
     },
@@ -923,8 +1074,10 @@ const CASES: [Case; 89] = [
         registers: [0xA000000002000000, 0xB200010001800080, 0, 0],
         cells: [0xC400000, 0, 0, 0],
         budget: 1,
-        end: Status::Running,
-        steps: 1,
+        outcome: Outcome {
+            status: Status::Running,
+            steps: 1,
+        },
         register: 0,
         word: 0xB200010001800080,
     },
@@ -933,8 +1086,10 @@ const CASES: [Case; 89] = [
         registers: [0xA000000002000000, 0xAA00010001800080, 0, 0],
         cells: [0xC400000, 0, 0, 0],
         budget: 1,
-        end: Status::Running,
-        steps: 1,
+        outcome: Outcome {
+            status: Status::Running,
+            steps: 1,
+        },
         register: 0,
         word: 0xA200010001800080,
     },
@@ -943,8 +1098,10 @@ const CASES: [Case; 89] = [
         registers: [0xA000000002000000, 0xFFFFFFF7, 0, 0],
         cells: [0xC400000, 0, 0, 0],
         budget: 1,
-        end: Status::Running,
-        steps: 1,
+        outcome: Outcome {
+            status: Status::Running,
+            steps: 1,
+        },
         register: 0,
         word: 0xFFFFFFF7,
     },
@@ -953,8 +1110,10 @@ const CASES: [Case; 89] = [
         registers: [0xA000000002000000, 0xA800010001800080, 0, 0],
         cells: [0x105FF800, 0, 0, 0],
         budget: 1,
-        end: Status::Running,
-        steps: 1,
+        outcome: Outcome {
+            status: Status::Running,
+            steps: 1,
+        },
         register: 0,
         word: 0xA000010001800080,
     },
@@ -963,8 +1122,10 @@ const CASES: [Case; 89] = [
         registers: [0xA000000002000000, 0x8800010001800080, 0, 0],
         cells: [0x10600000, 0, 0, 0],
         budget: 1,
-        end: Status::Running,
-        steps: 1,
+        outcome: Outcome {
+            status: Status::Running,
+            steps: 1,
+        },
         register: 0,
         word: 0x8800010001800080,
     },
@@ -973,8 +1134,10 @@ const CASES: [Case; 89] = [
         registers: [0xA000000002000000, 0xA800010001800080, 0, 0],
         cells: [0x10400000, 0, 0, 0],
         budget: 1,
-        end: Status::Running,
-        steps: 1,
+        outcome: Outcome {
+            status: Status::Running,
+            steps: 1,
+        },
         register: 0,
         word: 0xA000000002000040,
     },
@@ -983,8 +1146,10 @@ const CASES: [Case; 89] = [
         registers: [0xA000000002000000, 0, 0, 0],
         cells: [0x14800800, 0, 0, 0],
         budget: 1,
-        end: Status::Running,
-        steps: 1,
+        outcome: Outcome {
+            status: Status::Running,
+            steps: 1,
+        },
         register: 0,
         word: 0xA000000002000040,
     },
@@ -993,8 +1158,10 @@ const CASES: [Case; 89] = [
         registers: [0xA000000002000000, 0xA800010001800080, 0, 0],
         cells: [0x14200800, 0, 0, 0],
         budget: 1,
-        end: Status::Running,
-        steps: 1,
+        outcome: Outcome {
+            status: Status::Running,
+            steps: 1,
+        },
         register: 0,
         word: 0xA8000100018000C0,
     },
@@ -1003,8 +1170,10 @@ const CASES: [Case; 89] = [
         registers: [0xA000000002000000, 0x90000300020000C0, 0, 0],
         cells: [0x1C403800, 0x18A00800, 0x8000000, 0],
         budget: 9,
-        end: Status::Halted,
-        steps: 3,
+        outcome: Outcome {
+            status: Status::Halted,
+            steps: 3,
+        },
         register: 2,
         word: 7,
     },
@@ -1018,8 +1187,10 @@ const CASES: [Case; 89] = [
         ],
         cells: [0x1C601000, 0x18E00800, 0x8000000, 0],
         budget: 9,
-        end: Status::Halted,
-        steps: 3,
+        outcome: Outcome {
+            status: Status::Halted,
+            steps: 3,
+        },
         register: 3,
         word: 0x8A00000000800000,
     },
@@ -1028,8 +1199,10 @@ const CASES: [Case; 89] = [
         registers: [0xA000000002000000, 0, 0, 0],
         cells: [0xC000000, 0, 0, 0],
         budget: 5,
-        end: Status::Running,
-        steps: 5,
+        outcome: Outcome {
+            status: Status::Running,
+            steps: 5,
+        },
         register: 0,
         word: 0xA000000002000000,
     },
@@ -1038,8 +1211,10 @@ const CASES: [Case; 89] = [
         registers: [0xA000000002000000, 0, 0, 0],
         cells: [0x8000000, 0, 0, 0],
         budget: 0,
-        end: Status::Running,
-        steps: 0,
+        outcome: Outcome {
+            status: Status::Running,
+            steps: 0,
+        },
         register: 0,
         word: 0xA000000002000000,
     },
@@ -1048,11 +1223,13 @@ const CASES: [Case; 89] = [
         registers: [0xA000000002000000, 7, 0, 0],
         cells: [0xC400000, 0, 0, 0],
         budget: 9,
-        end: Status::Failed {
-            cause: Fault::NotExecutable,
-            place: None,
+        outcome: Outcome {
+            status: Status::Failed {
+                cause: Fault::NotExecutable,
+                place: None,
+            },
+            steps: 2,
         },
-        steps: 2,
         register: 1,
         word: 7,
     },
@@ -1064,21 +1241,21 @@ fn hand(numbers: &[u64; 4]) -> Hand {
     hand
 }
 
-// How the run ended, the steps made, and the word of the case's register.
-fn outcome(case: &Case) -> (Status, u32, Option<u64>) {
+// What the run came to, and the word of the case's register.
+fn ran(case: &Case) -> (Outcome, Option<u64>) {
     let mut cells = case.cells;
     let mut machine = Machine {
         registers: Registers::from(&hand(&case.registers)),
         memory: TableMemory::new(&mut cells),
     };
-    let Outcome { status, steps } = machine.run(case.budget);
+    let outcome = machine.run(case.budget);
     let word = machine.registers.read(case.register).ok();
-    (status, steps, word.map(|word| encode(&word)))
+    (outcome, word.map(|word| encode(&word)))
 }
 
 #[test]
 fn instructions_do_and_fault_as_listed(rt: HostRuntime) {
     for case in &CASES {
-        assert_eq!(rt; outcome(case), (case.end, case.steps, Some(case.word)));
+        assert_eq!(rt; ran(case), (case.outcome, Some(case.word)));
     }
 }

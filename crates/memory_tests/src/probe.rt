@@ -26,13 +26,10 @@ const ADDRESSES: [usize; 14] = [
 
 // The integer in a cell: none for a capability or a refusal.
 pub fn integer<M: Memory>(memory: &M, address: usize) -> Option<i32> {
-    match memory.load(address) {
-        Ok(Word::Int(value)) => Some(value),
-        _ => None,
-    }
+    memory.load(address).ok()?.integer()
 }
 
-// The number of the refusal of a load; none where it gives a word.
+// The refusal of a load, by its number, which is what the rules give a refusal; none where it gives a word.
 pub fn refusal<M: Memory>(memory: &M, address: usize) -> Option<u32> {
     memory.load(address).err().map(|refusal| refusal.number())
 }

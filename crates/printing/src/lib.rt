@@ -6,6 +6,7 @@ use trial::{AREA, trial};
 
 // Tries the sheet in an input and prints its report, with a line for each cell that the run changed; or prints why the input is no sheet.
 pub fn print_trial(rt: &impl Print, input: &[u8]) -> io::Result<()> {
+    // of a fixed size: nothing is allocated, so that no trial fails for want of memory
     let mut area = [0u8; AREA];
     match trial(input, &mut area) {
         Err(malformed) => rt.println(malformed),

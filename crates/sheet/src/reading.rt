@@ -43,6 +43,7 @@ fn read_group(bytes: &[u8], group: usize) -> Result<Word, Malformed>
     requires { group < group_count bytes.now }
     ensures { ReadsGroup bytes.now group result }
 {
+    // computed, and not left to `chunks_exact`: the offset is a part of the refusal
     let offset = BUDGET + GROUP * group;
     unpack(&bytes[offset..offset + GROUP]).map_err(|refusal| Malformed { refusal, offset })
 }

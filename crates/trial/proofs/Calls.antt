@@ -6,7 +6,6 @@ use Rattle.words.specs.declared.refusal.Refusal.{Refusal}
 use Rattle.survey.specs.declared.surveying.Counts.{Counts}
 use Rattle.words.specs.declared.word.Word.{Word as Held}
 use Rattle.words.specs.declared.word.Word.TheVariants.{Int}
-use Rattle.words.specs.Refusals.{refusal_number}
 use Rattle.words.specs.Meaning.{meaning}
 use Rattle.groups.specs.Groups.{group_word, group_at}
 use Rattle.groups.specs.Answers.{unpacking, unpacking_of}

@@ -8,20 +8,22 @@ use Rattle.model.specs.declared.status.Status.{Status}
 use Rattle.model.specs.declared.status.Status.TheVariants.{Running, Halted, Failed}
 use Rattle.model.specs.Faults.{fault_number}
 
--- `reach 3 1`, and the beginning of the next line.
-abbrev reach : ℕ → ℕ → List ℕ → List ℕ
-reach marked writable rest = codes "reach " ++ (decimal marked ++ (codes " " ++ (decimal writable ++ rest)))
-
 -- The place of a fault, `-` where it is absent.
 abbrev pub place_text : Option ℕ → List ℕ
 place_text (Some a) = decimal a
 place_text None = codes "-"
 
+-- `halted steps 6`, and a second line for a fault.
+abbrev pub outcome_text : Status → ℕ → List ℕ
+outcome_text Running steps = codes "running steps " ++ decimal steps
+outcome_text Halted steps = codes "halted steps " ++ decimal steps
+outcome_text (Failed cause place) steps =
+    codes "failed steps " ++ (decimal steps ++ (codes "\nfault " ++ (decimal (fault_number cause) ++ (codes " at " ++ place_text place))))
+
+-- `reach 3 1`, and the outcome from the next line on.
 abbrev pub report_text : ℕ → ℕ → Status → ℕ → List ℕ
-report_text marked writable Running steps = reach marked writable (codes "\noutcome running steps " ++ decimal steps)
-report_text marked writable Halted steps = reach marked writable (codes "\noutcome halted steps " ++ decimal steps)
-report_text marked writable (Failed cause place) steps =
-    reach marked writable (codes "\noutcome failed steps " ++ (decimal steps ++ (codes "\nfault " ++ (decimal (fault_number cause) ++ (codes " at " ++ place_text place)))))
+report_text marked writable status steps =
+    codes "reach " ++ (decimal marked ++ (codes " " ++ (decimal writable ++ (codes "\noutcome " ++ outcome_text status steps))))
 
 abbrev pub cell_text : ℕ → Word → List ℕ
 cell_text a (integer z) = codes "cell " ++ (decimal a ++ (codes " int " ++ signed_decimal z))

@@ -1,5 +1,5 @@
 ghost use Rattle.std.specs.Prelude.{◌++◌, Some};
-ghost use Rattle.trial.specs.Texts.{place_text, report_text};
+ghost use Rattle.trial.specs.Texts.{place_text, outcome_text, report_text};
 
 use machine::Outcome;
 use model::Status;
@@ -21,26 +21,33 @@ pub struct Report<'a, 'b> {
     pub after: &'b [u8],
 }
 
-// The lines of the survey, the outcome and the fault, if there is one.
+// The line of the survey, and the lines of the outcome.
 impl<'a, 'b> fmt::Display for Report<'a, 'b> {
     ghost output = { λ r. Some (report_text r.ending.counts.marked r.ending.counts.writable r.ending.outcome.status r.ending.outcome.steps) };
 
     fn fmt<W: fmt::Write>(&self, f: &mut fmt::Formatter<W>) -> fmt::Result {
         let Counts { marked, writable } = self.ending.counts;
-        let Outcome { status, steps } = self.ending.outcome;
+        let outcome = Ended(self.ending.outcome);
+        write!(f, "reach {marked} {writable}\noutcome {outcome}")
+    }
+}
+
+// The outcome of a run, with a line for the fault if there is one.
+#[derive(Clone, Copy)]
+struct Ended(Outcome);
+
+impl fmt::Display for Ended {
+    ghost output = { λ e. Some (outcome_text e.0.status e.0.steps) };
+
+    fn fmt<W: fmt::Write>(&self, f: &mut fmt::Formatter<W>) -> fmt::Result {
+        let Outcome { status, steps } = self.0;
         match status {
-            Status::Running => write!(
-                f,
-                "reach {marked} {writable}\noutcome running steps {steps}"
-            ),
-            Status::Halted => write!(f, "reach {marked} {writable}\noutcome halted steps {steps}"),
+            Status::Running => write!(f, "running steps {steps}"),
+            Status::Halted => write!(f, "halted steps {steps}"),
             Status::Failed { cause, place } => {
                 let number = cause.number();
                 let place = Place(place);
-                write!(
-                    f,
-                    "reach {marked} {writable}\noutcome failed steps {steps}\nfault {number} at {place}"
-                )
+                write!(f, "failed steps {steps}\nfault {number} at {place}")
             }
         }
     }

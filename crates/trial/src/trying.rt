@@ -7,7 +7,7 @@ ghost use Rattle.trial.specs.Trials.{placings, Ends, Tries};
 
 use super::report::{Ending, Report};
 use bench::Idle;
-use groups::{Hand, unpack};
+use groups::unpack;
 use memory::{Memory, PackedMemory};
 use sheet::{MOST_CELLS, Malformed, Sheet, read_sheet};
 use words::Word;
@@ -28,18 +28,19 @@ fn place_groups<M: Memory>(bench: &mut Idle<M>, groups: &[u8])
     }
 }
 
-// A trial on any memory that has a cell for each group: the memory as it is left, and what the trial came to.
-fn try_on<M: Memory>(memory: M, groups: &[u8], hand: &Hand, budget: u32) -> (M, Ending)
-    requires { (length (M.Memory.row memory) ≡ length (packed_row groups.now)) × (length (M.Memory.row memory) ≤ MOST_CELLS) }
-    ensures { Ends (packed_row groups.now) (hand_words hand.now) budget result.1 (M.Memory.row result.0) }
+// A trial of a sheet on any memory that has a cell for each group: the memory as it is left, and what the trial came to.
+fn try_on<M: Memory>(memory: M, sheet: &Sheet<'_>) -> (M, Ending)
+    requires { (length (M.Memory.row memory) ≡ length (packed_row sheet.now.cells.now)) × (length (M.Memory.row memory) ≤ MOST_CELLS) }
+    ensures { Ends (packed_row sheet.now.cells.now) (hand_words sheet.now.hand) sheet.now.budget result.1 (M.Memory.row result.0) }
 {
     let mut bench = Idle::make(memory);
-    place_groups(&mut bench, groups);
+    place_groups(&mut bench, sheet.cells);
+    // of a fixed size: nothing is allocated, so that no trial fails for want of memory
     let mut chart = [0u8; MOST_CELLS];
     // not refused, since the chart has a byte for each cell
-    let counts = bench.survey(hand, &mut chart).unwrap();
-    let mut visit = bench.open(hand);
-    let outcome = visit.run(budget);
+    let counts = bench.survey(&sheet.hand, &mut chart).unwrap();
+    let mut visit = bench.open(&sheet.hand);
+    let outcome = visit.run(sheet.budget);
     (visit.close().end(), Ending { counts, outcome })
 }
 
@@ -49,16 +50,11 @@ fn try_sheet<'a, 'b>(sheet: Sheet<'a>, area: &'b mut [u8; AREA]) -> Report<'a, '
     ensures tried { Ends (packed_row result.before.now) (hand_words sheet.entry.hand) sheet.entry.budget result.ending (packed_row result.after.now) }
     ensures before { result.before.now ≡ sheet.entry.cells.now }
 {
-    let Sheet {
-        budget,
-        hand,
-        cells,
-    } = sheet;
-    let memory = PackedMemory::new(&mut area[..cells.len()]);
-    let (memory, ending) = try_on(memory, cells, &hand, budget);
+    let memory = PackedMemory::new(&mut area[..sheet.cells.len()]);
+    let (memory, ending) = try_on(memory, &sheet);
     Report {
         ending,
-        before: cells,
+        before: sheet.cells,
         after: memory.back(),
     }
 }

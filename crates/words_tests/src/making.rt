@@ -1,6 +1,6 @@
 use words::{Bounds, Capability, Order, Permission};
 
-// Permission, locality, base, end and cursor, and the number of the refusal, if it is refused.
+// Permission, locality, base, end and cursor, and the refusal, if it is refused: by its number, which is what the rules give a refusal.
 const MADE: [([u32; 5], Result<(), u32>); 14] = [
     ([0, 0, 0, 0, 0], Ok(())),
     ([7, 1, 65536, 65536, 65536], Ok(())),
@@ -31,7 +31,7 @@ fn capabilities_are_made_or_refused(rt: HostRuntime) {
     }
 }
 
-// For each permission, in the order of the codes, those that are above it: one bit each, O the lowest.
+// For each permission, in the order of the codes, those that are above it: one bit each, O the lowest, since eight lists of permissions would be longer to read.
 const ABOVE: [u32; 8] = [
     0b11111111, 0b11011110, 0b11001100, 0b10001000, 0b11010000, 0b11110000, 0b11000000, 0b10000000,
 ];

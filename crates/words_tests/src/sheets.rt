@@ -20,7 +20,7 @@ const INPUTS: [(usize, Option<usize>, Result<(), (u32, usize)>); 16] = [
     (133, Some(7), Err((7, 0))),
 ];
 
-// The number and the offset of the refusal, if there is one.
+// The refusal, by its number, which is what the rules give a refusal, and its offset, if there is one.
 fn read(bytes: &[u8]) -> Result<(), (u32, usize)> {
     read_sheet(bytes)
         .map(|_| ())
