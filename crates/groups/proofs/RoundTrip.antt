@@ -2,6 +2,7 @@
 use Rattle.std.proofs.Common.{◌≡◌, ℕ, ◌+◌, ◌*◌, ◌/◌, ◌%◌, ◌^◌, ◌<◌, ◌≤◌, Bool, true, false, cond, ◌&&◌, eqb, ltb, leb, ◌≢◌, ◌⊎◌, Some, None, Option, sym, refl, ap, ◌∙◌, inl, inr, ⊎_elim, arith}
 use Rattle.std.proofs.lemmas.Bool.Decides.{nat_tests}
 use Rattle.std.proofs.lemmas.Bool.{cases_Bool, ltb-true, eqb-true, and_parts}
+use Rattle.words.proofs.Codes.{permission_coded, locality_coded}
 use Rattle.words.specs.declared.permission.Permission.{Permission}
 use Rattle.words.specs.declared.permission.Permission.TheVariants.{O, RO, RW, RWL, RX, E, RWX, RWLX}
 use Rattle.words.specs.declared.locality.Locality.{Locality}
@@ -31,12 +32,6 @@ code_below p = search arith
 
 pub locality_below : (l : Locality) → locality_code l < 2
 locality_below l = search arith
-
-permission_there : (m : ℕ) (p : Permission) → permission_at m ≡ Some p → permission_code p ≡ m
-permission_there m p h = grind (arith, nat_tests)
-
-locality_there : (m : ℕ) (l : Locality) → locality_at m ≡ Some l → locality_code l ≡ m
-locality_there m l h = grind (arith, nat_tests)
 
 -- The fields of a packed capability.
 record Fields (n p l b e k : ℕ) : Type 0 where
@@ -102,8 +97,8 @@ cap_there : (n : ℕ) (o : Option Cap) (v : Word) → capability_in n ≡ o → 
 cap_there n (Some c) v d h top low =
     let e : v ≡ capability c = cc in
     let q = parts (permission_at (bits n 59 4)) (locality_at (bits n 57 2)) (bits n 40 17) (bits n 23 17) (bits n 6 17) c d in
-    let p : permission_code c.permission ≡ n / 2 ^ 59 % 2 ^ 4 = permission_there (bits n 59 4) c.permission q.0 in
-    let l : locality_code c.locality ≡ n / 2 ^ 57 % 2 ^ 2 = locality_there (bits n 57 2) c.locality q.1 in
+    let p : permission_code c.permission ≡ n / 2 ^ 59 % 2 ^ 4 = permission_coded (bits n 59 4) c.permission q.0 in
+    let l : locality_code c.locality ≡ n / 2 ^ 57 % 2 ^ 2 = locality_coded (bits n 57 2) c.locality q.1 in
     let r : packed (capability c) ≡ n = omega (arith, p, l, q.2, q.3, q.4) in
     ap packed e ∙ r
 cap_there n None v d h top low = let z : ◌≡◌ {A = ℕ} 0 1 = cc in absurd (omega arith)

@@ -4,13 +4,13 @@ ghost use Rattle.words.specs.Meaning.{meaning};
 ghost use Rattle.groups.specs.Hands.{hand_words, given_word, word_in, Set};
 
 use super::number::{encode, plain_word};
-use words::{Refusal, Word};
+use words::{REGISTERS, Refusal, Word};
 
 // Sixteen words as plain numbers, one for each register from register 0 (the pc) on: what a visit is opened with. A number that packs no word means
 // integer 0. An array, since a hand has sixteen words, no more and no fewer.
 #[derive(Clone, Copy, Debug, PartialEq, Eq)]
 pub struct Hand {
-    pub numbers: [u64; 16],
+    pub numbers: [u64; REGISTERS],
 }
 
 impl Hand {
@@ -18,7 +18,9 @@ impl Hand {
     pub fn new() -> Hand
         ensures { hand_words result ≡ replicate 16 zero_word }
     {
-        Hand { numbers: [0; 16] }
+        Hand {
+            numbers: [0; REGISTERS],
+        }
     }
 
     // Sets the word for a register; refused where there is no such register.
@@ -26,7 +28,7 @@ impl Hand {
         ensures { Set self.old register (meaning word.now) result self.new }
     {
         // by the index, since after `get_mut` no proof knows the numbers of the other registers
-        if register >= 16 {
+        if register >= REGISTERS {
             return Err(Refusal::NoRegister);
         }
         self.numbers[register] = encode(word);

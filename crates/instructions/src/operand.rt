@@ -2,12 +2,13 @@ ghost use Rattle.std.specs.Prelude.{◌≡◌, ◌^◌, ◌<◌, true};
 ghost use Rattle.instructions.specs.Operands.{register_fits, constant_fits, operand_bits, operand_at};
 
 use super::instruction::Operand;
+use words::REGISTERS;
 
 // The flag of an operand's eleven bits, set for a register.
 pub(crate) const FLAG: u32 = 0x400;
 
 // The largest number of a register.
-pub(crate) const LAST_REGISTER: u32 = 15;
+pub(crate) const LAST_REGISTER: u32 = REGISTERS as u32 - 1;
 
 // `to_bits` and `from_bits` are no From and TryFrom: not every operand has bits, a number of eleven bits has no type of its own, and
 // `u32::from(operand)` would not say that bits are meant.

@@ -13,12 +13,12 @@ use effects::lea;
 use groups::{Hand, plain_word};
 use instructions::Operand;
 use model::Fault;
-use words::{Refusal, Word};
+use words::{REGISTERS, Refusal, Word};
 
 // The words of the sixteen registers; register 0 is the pc. A higher number names none: it reads as the integer 0, and nothing is put there.
 #[derive(Clone, Copy, Debug, PartialEq, Eq)]
 pub struct Registers {
-    words: [Word; 16],
+    words: [Word; REGISTERS],
 }
 
 // The words of a hand.
@@ -39,7 +39,7 @@ impl Registers {
         ensures { file result ≡ replicate 16 zero_word }
     {
         Registers {
-            words: [Word::Int(0); 16],
+            words: [Word::Int(0); REGISTERS],
         }
     }
 

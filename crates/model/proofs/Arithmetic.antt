@@ -4,12 +4,13 @@ use native.Mathlib.Nat.{div-add-mod, div-eq_of_lt-le}
 use native.Mathlib.Decide.{dec_lt}
 use lib.IntN.{sub_ℕ}
 use Rattle.std.proofs.lemmas.Bool.Decides.{nat_tests}
+use Rattle.words.proofs.Codes.{permission_coded, locality_coded}
 use Rattle.words.specs.declared.permission.Permission.{Permission}
 use Rattle.words.specs.declared.permission.Permission.TheVariants.{O, RO, RW, RWL, RX, E, RWX, RWLX}
 use Rattle.words.specs.declared.locality.Locality.{Locality}
 use Rattle.words.specs.declared.locality.Locality.TheVariants.{Global, Local}
-use Rattle.words.specs.Permissions.{permission_code, permission_at}
-use Rattle.words.specs.Localities.{locality_code, locality_at}
+use Rattle.words.specs.Permissions.{permission_at}
+use Rattle.words.specs.Localities.{locality_at}
 use Rattle.model.specs.declared.fault.Fault.TheVariants.{UnknownPair}
 use Rattle.model.specs.Machine.{Effect, faulting}
 use Rattle.model.specs.Numbers.{rounded, quotient}
@@ -161,12 +162,6 @@ pub quotient_nearest : QuotientNearest
 quotient_nearest x y h = (quotient_near x y (not_zero y h), λ q n. quotient_only x y q (not_zero y h) n)
 
 -- ── Pairs ──
-
-permission_coded : (n : ℕ) (p : Permission) → permission_at n ≡ Some p → n ≡ permission_code p
-permission_coded n p e = grind (arith, nat_tests)
-
-locality_coded : (n : ℕ) (l : Locality) → locality_at n ≡ Some l → n ≡ locality_code l
-locality_coded n l e = grind (arith, nat_tests)
 
 pair_found : (rest : Permission → Locality → Effect) (p : Permission) (l : Locality) → with_pair (pair_number p l) rest ≡ rest p l
 unfolding with_pair with_code

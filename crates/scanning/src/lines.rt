@@ -10,7 +10,8 @@ pub struct FirstWord<'a> {
     pub rest: &'a [u8],
 }
 
-// The first line of a text, and what follows its line feed.
+// The first line of a text, and what follows its line feed. A struct of its own beside that of a word, so that each field's name says
+// what it holds.
 #[derive(Clone, Copy, Debug, PartialEq, Eq)]
 pub struct FirstLine<'a> {
     pub line: &'a [u8],

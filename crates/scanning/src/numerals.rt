@@ -3,6 +3,7 @@ ghost use Rattle.std.specs.Str.{all_ascii_digits};
 ghost use Rattle.notation.specs.Numerals.{number_in, integer_in, register_in};
 
 use std::str;
+use words::REGISTERS;
 
 // Whether every byte is a decimal digit.
 fn is_digits(word: &[u8]) -> bool
@@ -35,5 +36,5 @@ pub fn integer(word: &[u8]) -> Option<i64>
 pub fn register(word: &[u8]) -> Option<u32>
     ensures { result ≡ register_in word.now }
 {
-    number(word.strip_prefix(b"r")?).filter(|number| *number <= 15)
+    number(word.strip_prefix(b"r")?).filter(|number| *number < REGISTERS as u32)
 }

@@ -3,16 +3,13 @@ ghost use Rattle.sheet.specs.Sheets.{group_count, sheet_length, Reads, ReadsGrou
 
 use super::malformed::Malformed;
 use groups::{Hand, unpack};
-use words::{Refusal, Word};
+use words::{REGISTERS, Refusal, Word};
 
 // The bytes of the budget.
 const BUDGET: usize = 4;
 
 // The bytes of a word's group.
 const GROUP: usize = 8;
-
-// The words of a hand.
-const REGISTERS: usize = 16;
 
 // The most cells that a sheet has.
 pub const MOST_CELLS: usize = 2048;

@@ -3,7 +3,8 @@ ghost use Rattle.survey.specs.Skips.{SkipsMarked, Skipped};
 
 use memory::CELLS;
 
-// Where to go on from a cell, at one level of marks: all cells from it up to `next` are marked. Where `next` is not above the cell, nothing is known.
+// Where to go on from a cell, at one level of marks: all cells from it up to `next` are marked. Where `next` is not above the cell, nothing is known. Addresses are
+// plain numbers below 65,536, and no type of their own: those of a range, with which they are compared, may be 65,536 and above.
 #[derive(Drop)]
 pub struct Skips {
     next: [u16; CELLS],

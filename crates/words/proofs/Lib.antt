@@ -1,2 +1,3 @@
 mod Deciding
 pub mod Equal
+pub mod Codes

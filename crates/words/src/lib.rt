@@ -17,4 +17,4 @@ pub use order::Order;
 pub use pair::{Authority, Pair, Rights};
 pub use permission::Permission;
 pub use refusal::Refusal;
-pub use word::Word;
+pub use word::{REGISTERS, Word};

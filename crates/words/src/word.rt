@@ -3,6 +3,9 @@ ghost use Rattle.words.specs.Kinds.{HoldsInteger, HoldsCapability};
 
 use super::capability::Capability;
 
+// How many registers there are, and words in a hand.
+pub const REGISTERS: usize = 16;
+
 // What a cell or a register holds.
 #[derive(Clone, Copy, Debug, PartialEq, Eq)]
 pub enum Word {

@@ -8,7 +8,7 @@ pub returns : goal.returns
 returns c =
     let numbers = c.args.self.now.numbers in
     let n = c.args.register in (
-      c.if-register-ge16.false,
+      c.if-register-ge-REGISTERS.false,
       ap (λ m. set numbers n m) c.encode.ensures.value,
       map-set plain numbers n c.encode.result ∙ ap (λ w. set (hand_words c.args.self.now) n w) (ap or_zero c.encode.ensures.back),
     )
