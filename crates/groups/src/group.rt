@@ -15,7 +15,7 @@ pub fn pack(word: &Word) -> [u8; 8]
     encode(word).to_be_bytes()
 }
 
-// The word in a group; refused for anything but eight bytes that pack one.
+// The word in a group; refused for anything but eight bytes that pack one. No TryFrom, as for `pack`.
 pub fn unpack(bytes: &[u8]) -> Result<Word, Refusal>
     ensures value { unpacking result ≡ unpacking_of bytes.now }
     ensures exactly { Unpacks bytes.now result }

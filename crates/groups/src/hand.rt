@@ -27,7 +27,7 @@ impl Hand {
     pub fn set(&mut self, register: usize, word: &Word) -> Result<(), Refusal>
         ensures { Set self.old register (meaning word.now) result self.new }
     {
-        // by the index, since after `get_mut` no proof knows the numbers of the other registers
+        // by the index: once the borrow of `get_mut` is over, no proof knows what stands in the array
         if register >= REGISTERS {
             return Err(Refusal::NoRegister);
         }

@@ -37,7 +37,7 @@ fn decode_capability(number: u64) -> Option<Capability>
     .ok()
 }
 
-// The word that a number packs, if it packs one.
+// The word that a number packs, if it packs one. No TryFrom, as for `encode`; and to pack none is no error.
 pub fn decode(number: u64) -> Option<Word>
     ensures value { word_given result ≡ unpacked number }
     ensures exactly { Decodes number result }

@@ -45,7 +45,7 @@ impl<M: Memory> Machine<M> {
     }
 
     // Writes a word into the cell and advances. Nothing is written where the pc cannot advance; that the cell is missing counts first. Only then is the cell loaded,
-    // to learn whether it is there: a test before each store would make every step that writes longer.
+    // to learn whether it is there: the fault has the memory's own refusal, which a comparison with the size would have to make up.
     fn write(&mut self, address: u32, word: Word) -> Result<(), Fault>
         ensures flow { Goes (machine_of M.Memory.row self.old) (performed (file self.old.registers) (M.Memory.row self.old.memory) (Write address (meaning word))) result (machine_of M.Memory.row self.new) }
         ensures rest { M.Memory.beyond self.new.memory ≡ M.Memory.beyond self.old.memory }

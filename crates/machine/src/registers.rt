@@ -87,7 +87,7 @@ impl Registers {
         }
     }
 
-    // By its index: what is written through `get_mut` is not known once that borrow is over.
+    // By its index: once the borrow of `get_mut` is over, no proof knows what stands in the array.
     pub(crate) fn put(&mut self, number: u32, word: Word)
         ensures { file self.new ≡ slice_set (file self.old) number (meaning word) }
     {

@@ -20,7 +20,7 @@ pub trait Memory {
     // which speaks of one state, can't stand
     ghost beyond: { Self → List ℕ };
 
-    // the ghost names of the loans that it holds, by which a caller knows what it gets back
+    // the ghost names of the loans that it holds, by which a caller knows what it gets back; said at each store, as `beyond` is
     ghost lent: { Self → List ℕ };
 
     // MOST, in clauses; a ghost MOST beside the constant gets no proof where the impl has a lifetime

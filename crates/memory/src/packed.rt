@@ -10,8 +10,8 @@ use groups::{pack, unpack};
 use words::{Refusal, Word};
 
 // A memory on borrowed bytes, one cell to each full group of eight up to 65,536. A group that packs no word means integer 0; bytes after the last cell are
-// never touched. A type of its own beside the table's: bytes are lent, not cells, so that up to seven of them make no cell, and what one generic type had to
-// say of them would be all that sets the two apart.
+// never touched. A type of its own beside the table's: one generic over numbers and bytes would need size, load, store and what lies beyond given for
+// each of the two, which is all that either has.
 #[derive(Drop)]
 pub struct PackedMemory<'a> {
     bytes: &'a mut [u8],

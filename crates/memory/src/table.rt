@@ -57,6 +57,7 @@ impl<'a> Memory for TableMemory<'a> {
     }
 
     fn load(&self, address: usize) -> Result<Word, Refusal> {
+        // by the size and not by `get` alone: numbers past the last cell are there, and are no cells
         if address >= self.size() {
             return Err(Refusal::NoCell);
         }

@@ -22,7 +22,7 @@ pub fn number(word: &[u8]) -> Option<u32>
     str::from_utf8(word).ok()?.parse().ok()
 }
 
-// The same, after a minus sign if there is one.
+// The same, after a minus sign if there is one. A match, since `map_or_else` would put the word without a sign first.
 pub fn integer(word: &[u8]) -> Option<i64>
     ensures { result ≡ integer_in word.now }
 {

@@ -129,6 +129,7 @@ impl<'a> Search<'a> {
         if before < byte {
             self.marks[address] = byte;
             if before == 0 {
+                // 16 bits hold it, since there are at most 65,536 marks
                 self.pending.push(address as u16);
             }
         }

@@ -5,6 +5,7 @@ use memory::CELLS;
 
 // Where to go on from a cell, at one level of marks: all cells from it up to `next` are marked. Where `next` is not above the cell, nothing is known. Addresses are
 // plain numbers below 65,536, and no type of their own: those of a range, with which they are compared, may be 65,536 and above.
+// An array of a fixed size: nothing is allocated.
 #[derive(Drop)]
 pub struct Skips {
     next: [u16; CELLS],
@@ -39,6 +40,7 @@ impl Skips {
         requires { address < 65536 }
         ensures { (k : ℕ) (marks : List ℕ) → k ≤ slice_index marks address → SkipsMarked k marks self.old → SkipsMarked k marks self.new }
     {
+        // the one test serves both: where it holds, the next address has 16 bits
         if address + 1 < CELLS {
             self.next[address] = (address + 1) as u16;
         }

@@ -22,6 +22,7 @@ fn place_groups<M: Memory>(bench: &mut Idle<M>, groups: &[u8])
     ensures size { length (M.Memory.row bench.new.memory) ≡ length (M.Memory.row bench.old.memory) }
 {
     for (address, group) in groups.chunks_exact(8).enumerate() {
+        // as a packed memory over the groups reads it
         let word = unpack(group).unwrap_or(Word::Int(0));
         // not refused, since there is such a cell
         let _ = bench.place(address, word);
