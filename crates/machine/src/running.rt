@@ -37,18 +37,18 @@ impl<M: Memory> Machine<M> {
         ensures lent { M.Memory.lent self.new.memory ≡ M.Memory.lent self.old.memory }
     {
         for i in 0..budget {
-            let status = match self.step() {
+            let (status, steps) = match self.step() {
                 Ok(Flow::Moved) => continue,
-                Ok(Flow::Halted) => Status::Halted,
-                Err(cause) => Status::Failed {
-                    cause,
-                    place: self.registers.place(),
-                },
+                Ok(Flow::Halted) => (Status::Halted, i + 1),
+                Err(cause) => (
+                    Status::Failed {
+                        cause,
+                        place: self.registers.place(),
+                    },
+                    i + 1,
+                ),
             };
-            return Outcome {
-                status,
-                steps: i + 1,
-            };
+            return Outcome { status, steps };
         }
         Outcome {
             status: Status::Running,
