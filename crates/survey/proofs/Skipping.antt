@@ -1,23 +1,13 @@
 -- Skips that stay right, and ranges that are marked by them.
-use Rattle.std.proofs.Common.{◌≡◌, ℕ, ◌+◌, ◌<◌, ◌≤◌, min, List, get_or, length, replicate, subst, arith}
+use Rattle.std.proofs.Common.{◌≡◌, ℕ, ◌+◌, ◌<◌, ◌≤◌, min, List, get_or, replicate, subst, arith}
 use Rattle.std.proofs.lemmas.Grind.{common_steps}
 use Rattle.survey.specs.declared.skips.Skips.{Skips}
-use Rattle.survey.specs.declared.search.Search.{Search}
-use Rattle.survey.specs.Marking.{blanks, Raised}
+use Rattle.survey.specs.Marking.{Raised}
 use Rattle.survey.specs.Skips.{AllMarked, SkipsMarked}
 use Rattle.survey.proofs.Raising.{nothing_raised, and_then}
 
-still_marked : {k from to : ℕ} {marks marks' p p' : List ℕ} → Raised k from to marks p marks' p' → (j : ℕ) (s : Skips) → SkipsMarked j marks s → SkipsMarked j marks' s
+pub still_marked : {k from to : ℕ} {marks marks' p p' : List ℕ} → Raised k from to marks p marks' p' → (j : ℕ) (s : Skips) → SkipsMarked j marks s → SkipsMarked j marks' s
 still_marked t j s r a x l g h = omega (arith, r a x l g (omega (arith, t.as_long)), t.grows x)
-
--- a search after marks were raised
-pub still_right : (s : Search) {k from to : ℕ} {marks' p' : List ℕ} → Raised k from to s.marks.now s.pending.items marks' p' → record { small : length marks' ≤ 65536; room : length p' + blanks marks' ≤ length marks'; reached_marked : SkipsMarked 1 marks' s.reached; writable_marked : SkipsMarked 2 marks' s.writable }
-still_right s r = record {
-  small = omega (arith, s.small, r.as_long);
-  room = omega (arith, s.room, r.balance, r.as_long);
-  reached_marked = still_marked r 1 s.reached s.reached_marked;
-  writable_marked = still_marked r 2 s.writable s.writable_marked;
-}
 
 -- a range up to a or the end, whichever comes first
 module _ {k from a end : ℕ} {m m' p p' : List ℕ} (s : Raised k from (min a end) m p m' p') (le : from ≤ a) (lt : a < end) where

@@ -2,6 +2,7 @@
 #![tactic(auto)]
 
 mod level;
+mod marking;
 mod search;
 mod skips;
 mod surveying;

@@ -6,10 +6,11 @@ ghost use Rattle.survey.specs.Pending.{Taken};
 ghost use Rattle.survey.specs.Skips.{AllMarked, SkipsMarked};
 
 use super::level::Level;
+use super::marking::mark_range;
 use super::skips::Skips;
 use arrayvec::ArrayVec;
 use memory::CELLS;
-use words::{Bounds, Word};
+use words::Word;
 
 // A search for the cells that a hand reaches. It has the marks, the cells that are marked and whose words are not followed yet, and for each level the skips
 // over cells that are marked so. The list has room for every cell that is not marked yet.
@@ -20,7 +21,7 @@ use words::{Bounds, Word};
 pub struct Search<'a> {
     marks: &'a mut [u8],
     pending: ArrayVec<u16, CELLS>,
-    // Two fields, and `skip` and `note` match on the level: with an array of the two, indexed by the level, a survey of a long chain took a fifth longer.
+    // Two fields, and `follow` matches on the level: with an array of the two, indexed by the level, a survey of a long chain took a fifth longer.
     reached: Skips,
     writable: Skips,
     ghost small: { length marks.now ≤ 65536 },
@@ -66,71 +67,22 @@ impl<'a> Search<'a> {
         if let Word::Cap(held) = word
             && let Some(level) = Level::of(held.permission())
         {
-            self.mark_range(held.bounds(), level);
-        }
-    }
-
-    // Marks the cells within bounds at least at a level, as far as there are cells, and skips those that are known to be.
-    fn mark_range(&mut self, bounds: Bounds, level: Level)
-        ensures same_reference { self.new.marks.ghost_name ≡ self.old.marks.ghost_name }
-        ensures raised { Raised (level_number level) bounds.base bounds.end self.old.marks.now self.old.pending.items self.new.marks.now self.new.pending.items }
-    {
-        let end = self.marks.len().min(bounds.end as usize);
-        let mut address = bounds.base as usize;
-        // no `for` can express this loop, since a skip may go over any number of cells
-        while address < end {
-            let next = self.skip(address, level);
-            if next > address {
-                address = next;
-            } else {
-                self.mark(address, level);
-                self.note(address, level);
-                address += 1;
-            }
-        }
-    }
-
-    // A cell at or after this one, up to which all are known to be marked at least at a level.
-    fn skip(&mut self, address: usize, level: Level) -> usize
-        requires { address < 65536 }
-        ensures same_reference { self.new.marks.ghost_name ≡ self.old.marks.ghost_name }
-        ensures marks { self.new.marks.now ≡ self.old.marks.now }
-        ensures pending { self.new.pending ≡ self.old.pending }
-        ensures onward { address ≤ result }
-        ensures over { AllMarked (level_number level) self.old.marks.now address result }
-    {
-        match level {
-            Level::Reached => self.reached.skip(address),
-            Level::Writable => self.writable.skip(address),
-        }
-    }
-
-    // Notes that a cell is marked at least at a level, so that the next range skips it.
-    fn note(&mut self, address: usize, level: Level)
-        requires { (address < length self.old.marks.now) × (level_number level ≤ slice_index self.old.marks.now address) }
-        ensures same_reference { self.new.marks.ghost_name ≡ self.old.marks.ghost_name }
-        ensures marks { self.new.marks.now ≡ self.old.marks.now }
-        ensures pending { self.new.pending ≡ self.old.pending }
-    {
-        match level {
-            Level::Reached => self.reached.note(address),
-            Level::Writable => self.writable.note(address),
-        }
-    }
-
-    // Marks one cell at least at a level, and lists it where it had no mark.
-    fn mark(&mut self, address: usize, level: Level)
-        requires { address < length self.old.marks.now }
-        ensures same_reference { self.new.marks.ghost_name ≡ self.old.marks.ghost_name }
-        ensures raised { Raised (level_number level) address (address + 1) self.old.marks.now self.old.pending.items self.new.marks.now self.new.pending.items }
-    {
-        let byte = u8::from(level);
-        let before = self.marks[address];
-        if before < byte {
-            self.marks[address] = byte;
-            if before == 0 {
-                // 16 bits hold it, since there are at most 65,536 marks
-                self.pending.push(address as u16);
+            let bounds = held.bounds();
+            match level {
+                Level::Reached => mark_range(
+                    self.marks,
+                    &mut self.pending,
+                    &mut self.reached,
+                    bounds,
+                    level,
+                ),
+                Level::Writable => mark_range(
+                    self.marks,
+                    &mut self.pending,
+                    &mut self.writable,
+                    bounds,
+                    level,
+                ),
             }
         }
     }
