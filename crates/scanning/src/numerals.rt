@@ -1,25 +1,29 @@
-ghost use Rattle.std.specs.Prelude.{◌≡◌};
+ghost use Rattle.std.specs.Prelude.{◌≡◌, ◌≤◌, length};
 ghost use Rattle.std.specs.Str.{all_ascii_digits};
-ghost use Rattle.notation.specs.Numerals.{number_in, integer_in, register_in};
+ghost use Rattle.notation.specs.Numerals.{digits_after, kept, number_in, integer_in, register_in};
 
-use std::str;
 use words::REGISTERS;
 
-// Whether every byte is a decimal digit.
-fn is_digits(word: &[u8]) -> bool
-    ensures { result ≡ all_ascii_digits word.now }
+// The number that up to nineteen digits write, as many as 64 bits always hold; none where a byte is no digit.
+fn digits(word: &[u8]) -> Option<u64>
+    requires { length word.now ≤ 19 }
+    ensures { result ≡ kept (all_ascii_digits word.now) (digits_after 0 word.now) }
 {
-    word.iter().all(|byte| byte.is_ascii_digit())
+    let mut number = 0;
+    for byte in word {
+        number = number * 10 + u64::from(char::from(*byte).to_digit(10)?);
+    }
+    Some(number)
 }
 
 // The number that a word of one to ten digits writes, if it is below 2 ^ 32.
 pub fn number(word: &[u8]) -> Option<u32>
     ensures { result ≡ number_in word.now }
 {
-    if word.len() > 10 || !is_digits(word) {
+    if word.is_empty() || word.len() > 10 {
         return None;
     }
-    str::from_utf8(word).ok()?.parse().ok()
+    u32::try_from(digits(word)?).ok()
 }
 
 // The same, after a minus sign if there is one. A match, since `map_or_else` would put the word without a sign first.
