@@ -20,12 +20,16 @@ fn join(p: Parts) -> Result<i32, Refusal>
     ensures { packing result ≡ packing_parts p }
 {
     let Parts { opcode, d, a, b } = p;
+    // first whether all of it fits, which looks at each operand once: with the two refusals in order before it, `pack` was slower
+    if d <= LAST_REGISTER
+        && let Some(a) = a.fitting_bits()
+        && let Some(b) = b.fitting_bits()
+    {
+        let number = (opcode << 26) + (d << 22) + (a << 11) + b;
+        return Ok(number.cast_signed());
+    }
     if d > LAST_REGISTER || !a.register_fits() || !b.register_fits() {
         return Err(Refusal::NoRegister);
     }
-    if !a.constant_fits() || !b.constant_fits() {
-        return Err(Refusal::OutOfRange);
-    }
-    let number = (opcode << 26) + (d << 22) + (a.to_bits() << 11) + b.to_bits();
-    Ok(number.cast_signed())
+    Err(Refusal::OutOfRange)
 }
