@@ -28,8 +28,8 @@ fn mark(marks: &mut [u8], pending: &mut ArrayVec<u16, CELLS>, address: usize, le
 }
 
 // Marks the cells within bounds at least at a level, as far as there are cells, and skips those that are known to be.
-// A function over the parts of a search, and no method: with the marks behind a field, each mark that was written had the length of the list read again, and a
-// survey of a table took up to a third longer.
+// A function over the parts of a search, and no method: as a method it read again at each cell where the marks are, and a survey of a table took up to a
+// third longer.
 pub fn mark_range(
     marks: &mut [u8],
     pending: &mut ArrayVec<u16, CELLS>,
